@@ -27,3 +27,15 @@ ended-given e = let z : _≡_ {A = ℕ} 0 1 = cc in omega arith
 
 pub the-given : {A : Type 0} {x y : A} → gives x ≡ gives y → x ≡ y
 the-given e = cc
+
+-- the other way: where the whole gives y, the first step gave something, from which the next gives y
+pub record Through {A B : Type 0} (a : Answer A) (k : A → Answer B) (y : B) : Type 0 where
+  pub first : A
+  pub gave : a ≡ gives first
+  pub next : k first ≡ gives y
+
+pub back : {A B : Type 0} (a : Answer A) (k : A → Answer B) (y : B) → a ⟫ k ≡ gives y → Through a k y
+unfolding _⟫_
+back (gives x) k y e = record { first = x; gave = refl; next = e }
+back ends k y e = absurd (ended-given e)
+back (refuses r) k y e = absurd (refused-given e)

@@ -61,6 +61,6 @@ good-sized m e =
     let b = not-first _ _ _ _ (a .1) not-true in
     record { least = omega (arith, ltb-false); most = omega (arith, ltb-false) }
 
-pub opened-sized : (s : List ℕ) (n : RecordNumber) → openOf s n ≡ gives tt → Sized (length s)
+pub opened-sized : (s : List ℕ) (n : RecordNumber) {u : Unit} → openOf s n ≡ gives u → Sized (length s)
 unfolding openOf
 opened-sized s n e = good-sized (length s) (not-second _ _ _ _ e refused-given .0)

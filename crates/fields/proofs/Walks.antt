@@ -1,5 +1,6 @@
 -- A walk whose every turn lowers its measure: its answer is that of the turn that stops, or of the state a turn goes on to. More turns change nothing.
 use Prim.Native.Nat.{ℕ, zero, suc, _<_}
+use native.Mathlib.Omega.{arith}
 use native.Mathlib.Nat.{not-suc-le-zero, le-of-suc-le-suc, lt-of-lt-of-le, lt-suc-self}
 use mathlib.Core.Path.{_≡_, refl, sym, ap, _∙_}
 use Rattle.fields.specs.Walk.{Turn, stop, go, after, run, walk}
@@ -44,3 +45,15 @@ module _ {S A : Type 0} (μ : S → ℕ) (f : S → Turn S A) (d : A) where
     pub walked : (s : S) → P s → Q (walk μ f d s)
     unfolding walk
     walked s p = ran (suc (μ s)) s (lt-suc-self (μ s)) p
+
+pub stop-go : {S A : Type 0} {a : A} {s : S} → stop a ≡ go s → ⊥
+stop-go e = let z : _≡_ {A = ℕ} 0 1 = cc in omega arith
+
+pub go-stop : {S A : Type 0} {a : A} {s : S} → go s ≡ stop a → ⊥
+go-stop e = let z : _≡_ {A = ℕ} 0 1 = cc in omega arith
+
+pub the-stop : {S A : Type 0} {a b : A} → _≡_ {A = Turn S A} (stop a) (stop b) → a ≡ b
+the-stop e = cc
+
+pub the-go : {S A : Type 0} {s t : S} → _≡_ {A = Turn S A} (go s) (go t) → s ≡ t
+the-go e = cc

@@ -13,7 +13,6 @@ abbrev pub refusal : ℕ → RecordNumber → ℕ → Refusal
 refusal n r p = record { number = n; file = r; place = p }
 
 infixl 20 _⟫_
-
 -- one step after another: what refuses or ends is the answer, else the next step decides
 unfoldable pub _⟫_ : {A B : Type 0} → Answer A → (A → Answer B) → Answer B
 gives a ⟫ k = k a

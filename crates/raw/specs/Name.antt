@@ -1,0 +1,25 @@
+-- "Name. Offset 0 or length 0: empty, no check. Else 8, then 9."
+use Prim.Native.Nat.{ℕ, _+_, _*_}
+use mathlib.Core.List.{List}
+use lib.Dec.{ltb, eqb}
+use Rattle.fields.specs.Pick.{pick}
+use Rattle.fields.specs.Answer.{Answer, gives, refuses, refusal, _⟫_}
+use Rattle.fields.specs.declared.RecordNumber.{RecordNumber}
+use Rattle.raw.specs.Attribute.{attributeOf}
+use Rattle.raw.specs.Span.{span}
+use Rattle.raw.specs.declared.Attribute.{Attribute}
+use Rattle.raw.specs.declared.Span.{Span}
+
+-- 8 / 9: "name offset at or past length / name end past it"; an empty name stands at 0
+unfoldable pub nameIn : RecordNumber → Attribute → Answer Span
+nameIn n h =
+    pick (eqb (h .name) 0) (gives (span 0 0))
+    (pick (eqb (2 * h .units) 0) (gives (span 0 0))
+    (pick (ltb (h .name) (h .length))
+    (pick (ltb (h .length) (h .name + 2 * h .units)) (refuses (refusal 9 n (h .offset)))
+    (gives (span (h .offset + h .name) (2 * h .units))))
+    (refuses (refusal 8 n (h .offset)))))
+
+-- the name of the attribute at an offset
+unfoldable pub nameOf : List ℕ → RecordNumber → ℕ → Answer Span
+nameOf s n at = attributeOf s n at ⟫ nameIn n
