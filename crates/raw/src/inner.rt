@@ -168,22 +168,22 @@ pub fn name_of(number: RecordNumber, h: Attribute) -> Spanned
     requires { ⌜ h .offset + h .length ≤ 4096 ⌝ }
     ensures { λ r. ⌜ toldSpanned r ≡ nameIn number h ⌝ }
 {
-    let from = h.name as usize;
+    let name = h.name as usize;
     let bytes = 2 * (h.units as usize);
-    if from == 0 {
+    if name == 0 {
         return Spanned::At(Span { from: 0, bytes: 0 });
     }
     if bytes == 0 {
         return Spanned::At(Span { from: 0, bytes: 0 });
     }
-    if h.length <= from {
+    if h.length <= name {
         return no_span(8, number, h.offset);
     }
-    if h.length < from + bytes {
+    if h.length < name + bytes {
         return no_span(9, number, h.offset);
     }
     Spanned::At(Span {
-        from: h.offset + from,
+        from: h.offset + name,
         bytes,
     })
 }
@@ -245,16 +245,16 @@ fn resident_span(number: RecordNumber, h: Attribute, f: ResidentHeader) -> Spann
     requires { ⌜ h .offset + h .length ≤ 4096 ⌝ }
     ensures { λ r. ⌜ toldSpanned r ≡ residentSpan number h f ⌝ }
 {
-    let from = f.value as usize;
+    let value = f.value as usize;
     let bytes = f.bytes as usize;
-    if h.length < from {
+    if h.length < value {
         return no_span(10, number, h.offset);
     }
-    if h.length < from + bytes {
+    if h.length < value + bytes {
         return no_span(11, number, h.offset);
     }
     Spanned::At(Span {
-        from: h.offset + from,
+        from: h.offset + value,
         bytes,
     })
 }
@@ -264,8 +264,8 @@ fn runs_span(number: RecordNumber, h: Attribute, f: NonResidentHeader) -> Valued
     requires { ⌜ h .offset + h .length ≤ 4096 ⌝ }
     ensures { λ r. ⌜ toldValued r ≡ runsSpan number h f ⌝ }
 {
-    let from = f.runs as usize;
-    if h.length < from {
+    let runs = f.runs as usize;
+    if h.length < runs {
         return Valued::Refused(Refusal {
             number: 12,
             file: number,
@@ -274,8 +274,8 @@ fn runs_span(number: RecordNumber, h: Attribute, f: NonResidentHeader) -> Valued
     }
     Valued::Runs(
         Span {
-            from: h.offset + from,
-            bytes: h.length - from,
+            from: h.offset + runs,
+            bytes: h.length - runs,
         },
         f.size,
     )

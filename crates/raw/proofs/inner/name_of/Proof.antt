@@ -6,8 +6,8 @@ use borrow.Author.Needs.{needs}
 use Rattle.raw.proofs.inner.name_of.Statement.{statement}
 use Rattle.raw.proofs.inner.name_of.Tie as tie
 
-cast-from : tie.Need-cast-from
-cast-from c = search needs
+cast-name : tie.Need-cast-name
+cast-name c = search needs
 
 cast-bytes : tie.Need-cast-bytes
 cast-bytes c = search needs
@@ -51,7 +51,7 @@ pub name-of-spec : {M : Type 1} → statement M
 name-of-spec =
     tie.close
     (tie.spec
-    cast-from
+    cast-name
     cast-bytes
     mul-bytes
     returns

@@ -6,8 +6,8 @@ use borrow.Author.Needs.{needs}
 use Rattle.raw.proofs.inner.resident_span.Statement.{statement}
 use Rattle.raw.proofs.inner.resident_span.Tie as tie
 
-cast-from : tie.Need-cast-from
-cast-from c = search needs
+cast-value : tie.Need-cast-value
+cast-value c = search needs
 
 cast-bytes : tie.Need-cast-bytes
 cast-bytes c = search needs
@@ -40,7 +40,7 @@ pub resident-span-spec : {M : Type 1} → statement M
 resident-span-spec =
     tie.close
     (tie.spec
-    cast-from
+    cast-value
     cast-bytes
     no-span-requires
     returns

@@ -6,8 +6,8 @@ use borrow.Author.Needs.{needs}
 use Rattle.raw.proofs.inner.runs_span.Statement.{statement}
 use Rattle.raw.proofs.inner.runs_span.Tie as tie
 
-cast-from : tie.Need-cast-from
-cast-from c = search needs
+cast-runs : tie.Need-cast-runs
+cast-runs c = search needs
 
 returns : tie.Need-returns
 unfolding runsSpan
@@ -21,4 +21,4 @@ unfolding runsSpan
 returns-2 c = search cases
 
 pub runs-span-spec : {M : Type 1} → statement M
-runs-span-spec = tie.close (tie.spec cast-from returns add-t7 returns-2)
+runs-span-spec = tie.close (tie.spec cast-runs returns add-t7 returns-2)
