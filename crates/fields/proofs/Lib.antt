@@ -4,3 +4,4 @@ pub mod Answers
 pub mod Walks
 pub mod Width
 pub mod Opens
+pub mod Settled

@@ -1,4 +1,4 @@
--- "and the attribute found: first in raw order with that type and instance; before it 3 to 6 refuse, without it 18"
+-- 01, "Items": the attribute found for an entry, "first in raw order with that type and instance; before it 3 to 6 refuse, without it 18".
 use Prim.Native.Nat.{ℕ, _+_, _-_}
 use mathlib.Core.List.{List}
 use mathlib.Core.Bool.{Bool, false}

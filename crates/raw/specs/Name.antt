@@ -1,4 +1,4 @@
--- "Name. Offset 0 or length 0: empty, no check. Else 8, then 9."
+-- 01, "Name": where it stands, or 8 or 9.
 use Prim.Native.Nat.{ℕ, _+_, _*_}
 use mathlib.Core.List.{List}
 use lib.Dec.{ltb, eqb}
@@ -10,7 +10,7 @@ use Rattle.raw.specs.Span.{span}
 use Rattle.raw.specs.declared.Attribute.{Attribute}
 use Rattle.raw.specs.declared.Span.{Span}
 
--- 8 / 9: "name offset at or past length / name end past it"; an empty name stands at 0
+-- "Offset 0 or length 0: empty", at 0; else 8, "name offset at or past length", and 9, "name end past it"
 unfoldable pub nameIn : RecordNumber → Attribute → Answer Span
 nameIn n h =
     pick (eqb (h .name) 0) (gives (span 0 0))

@@ -1,4 +1,4 @@
--- "Raw walk. It starts at the first attribute offset. Fewer than 4 bytes left, or type 0xFFFFFFFF: end. Else checks 3, 4, 5, and on by the length."
+-- 01, "Raw walk": its end, or the attribute at its place behind checks 3, 4 and 5. The next place is the attribute's length further on.
 use Prim.Native.Nat.{ℕ, _-_}
 use mathlib.Core.List.{List}
 use lib.ListN.{length}
@@ -20,7 +20,7 @@ toldStep (raw.Given h) = gives h
 toldStep raw.End = ends
 toldStep (raw.Refused r) = refuses r
 
--- one step at a place; past the record nothing is left
+-- "Fewer than 4 bytes left, or type 0xFFFFFFFF: end"; past the record nothing is left
 unfoldable pub stepAt : List ℕ → RecordNumber → ℕ → Answer Attribute
 stepAt s n at =
     pick (ltb (length s - at) 4) ends

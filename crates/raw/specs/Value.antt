@@ -1,4 +1,4 @@
--- "Value of one attribute. 7, then 10 and 11 (resident) or 12. Offset plus length above 2^32 - 1 is 11. The runs are the bytes from the runs offset to the attribute's end."
+-- 01, "Value of one attribute": the full header behind 7, then where the value or the runs stand, and what opens a list.
 use Prim.Native.Nat.{ℕ, _+_, _-_}
 use mathlib.Core.List.{List}
 use lib.Dec.{ltb}
@@ -55,7 +55,7 @@ fullIn s n h =
 unfoldable pub fullOf : List ℕ → RecordNumber → ℕ → Answer Full
 fullOf s n at = attributeOf s n at ⟫ fullIn s n
 
--- 10 / 11: "value offset past length / value end past it"; the sum does not wrap
+-- 10 / 11: "value offset past length / value end past it"; a sum here has no width, so one above 2^32 - 1 is 11 too
 unfoldable pub residentSpan : RecordNumber → Attribute → ResidentHeader → Answer Span
 residentSpan n h f =
     pick (ltb (h .length) (f .value)) (refuses (refusal 10 n (h .offset)))
@@ -73,13 +73,13 @@ toldValued (valued.Resident p) = gives (inRecord p)
 toldValued (valued.Runs p size) = gives (inRuns p size)
 toldValued (valued.Refused r) = refuses r
 
--- 12: "runs offset past length"
+-- 12: "runs offset past length"; the runs end where the attribute does
 unfoldable pub runsSpan : RecordNumber → Attribute → NonResidentHeader → Answer Value
 runsSpan n h f =
     pick (ltb (h .length) (f .runs)) (refuses (refusal 12 n (h .offset)))
     (gives (inRuns (span (h .offset + f .runs) (h .length - f .runs)) (f .size)))
 
--- after 7: 10 and 11, or 12
+-- "7, then 10 and 11 (resident) or 12"
 unfoldable pub valueAfter : RecordNumber → Attribute → Full → Answer Value
 valueAfter n h (resident f) = residentSpan n h f ⟫ λ p. gives (inRecord p)
 valueAfter n h (nonResident f) = runsSpan n h f
@@ -99,7 +99,7 @@ spanOf (inRuns p size) = p
 unfoldable pub valueSpan : List ℕ → RecordNumber → ℕ → Answer Span
 valueSpan s n at = valueOf s n at ⟫ λ v. gives (spanOf v)
 
--- "A raw attribute of type 0x20 opens its list (7, then 10 and 11, or 13 without 12)"
+-- 01, "Items": an attribute opens its list by "7, then 10 and 11, or 13 without 12"
 unfoldable pub listAfter : RecordNumber → Attribute → Full → Answer Span
 listAfter n h (resident f) = residentSpan n h f
 listAfter n h (nonResident f) = refuses (refusal 13 n (h .offset))
