@@ -69,6 +69,12 @@ unfolding pick
 either true x y z e = inl e
 either false x y z e = inr e
 
+-- what holds of both sides holds of the choice
+pub both : {A : Type 0} (P : A → Type 0) (t : Bool) (x y : A) → P x → P y → P (pick t x y)
+unfolding pick
+both P true x y p q = p
+both P false x y p q = q
+
 pub same : {A : Type 0} (x : A) → x ≡ x
 same x = refl
 

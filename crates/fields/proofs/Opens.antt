@@ -9,7 +9,7 @@ use lib.ListN.{length, take, length-take}
 use borrow.Author.Tests.{eqb-true, eq-eqb, ltb-false}
 use Rattle.fields.specs.Pick.{pick}
 use Rattle.fields.specs.Answer.{gives}
-use Rattle.fields.specs.Open.{same, FILE, isFile, goodLength, openOf}
+use Rattle.fields.specs.Open.{same, FILE, isFile, goodLength, openOf, openIn}
 use Rattle.fields.specs.declared.RecordNumber.{RecordNumber}
 use Rattle.fields.proofs.Cases.{not-first, not-second}
 use Rattle.fields.proofs.Answers.{refused-given}
@@ -64,3 +64,7 @@ good-sized m e =
 pub opened-sized : (s : List ℕ) (n : RecordNumber) {u : Unit} → openOf s n ≡ gives u → Sized (length s)
 unfolding openOf
 opened-sized s n e = good-sized (length s) (not-second _ _ _ _ e refused-given .0)
+
+pub opened-in-sized : (s : List ℕ) (n : RecordNumber) (size : ℕ) {u : Unit} → openIn s n size ≡ gives u → Sized (length s)
+unfolding openIn
+opened-in-sized s n size e = opened-sized s n (not-second _ _ _ _ e refused-given .1)

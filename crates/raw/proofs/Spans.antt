@@ -1,6 +1,6 @@
 -- A name, a value, the runs and a list that a call tells of lie inside the record: each ends inside its attribute, which does.
 use Prim.Native.Nat.{ℕ, _+_, _≤_}
-use mathlib.Core.Path.{_≡_, subst}
+use mathlib.Core.Path.{_≡_, ap, subst}
 use mathlib.Core.Logic.{⊎-elim}
 use mathlib.Core.List.{List}
 use native.Mathlib.Omega.{arith}
@@ -68,6 +68,25 @@ module _ (s : List ℕ) (n : RecordNumber) (h : Attribute) (i : Inside s h) wher
   pub list-fits : (p : Span) → listIn s n h ≡ gives p → Fits s p
   unfolding listIn
   list-fits p e = let t = back (fullIn s n h) (listAfter n h) p e in list-after (t .first) p (t .next)
+
+-- a list is no longer than the attribute that holds it
+module _ (s : List ℕ) (n : RecordNumber) (h : Attribute) (p : Span) where
+  resident-short : (f : ResidentHeader) → residentSpan n h f ≡ gives p → p .bytes ≤ h .length
+  unfolding residentSpan
+  resident-short f e =
+      let e₁ = not-first _ _ _ _ e refused-given in
+      let e₂ = not-first _ _ _ _ (e₁ .1) refused-given in
+      let b = ap (λ (x : Span). x .bytes) (the-given (e₂ .1)) in
+      omega (arith, ltb-false)
+
+  short-after : (f : Full) → listAfter n h f ≡ gives p → p .bytes ≤ h .length
+  unfolding listAfter
+  short-after (resident f) e = resident-short f e
+  short-after (nonResident f) e = absurd (refused-given e)
+
+  pub list-short : listIn s n h ≡ gives p → p .bytes ≤ h .length
+  unfolding listIn
+  list-short e = let t = back (fullIn s n h) (listAfter n h) p e in short-after (t .first) (t .next)
 
 -- behind checks 1 to 5
 module _ (s : List ℕ) (n : RecordNumber) (at : ℕ) where

@@ -1,0 +1,78 @@
+-- Each return has the tests that led to it.
+use Rattle.table.specs.Check.{goodNumbers}
+use Rattle.fields.proofs.Cases.{cases, call-y, lt-y, lt-n}
+use borrow.Author.Needs.{needs}
+use Rattle.table.proofs.good_numbers.Statement.{statement}
+use Rattle.table.proofs.good_numbers.Tie as tie
+
+cast-count : tie.Need-cast-count
+cast-count c = search needs
+
+cast-size : tie.Need-cast-size
+cast-size c = search needs
+
+cast-directory : tie.Need-cast-directory
+cast-directory c = search needs
+
+cast-records : tie.Need-cast-records
+cast-records c = search needs
+
+cast-base : tie.Need-cast-base
+cast-base c = search needs
+
+returns : tie.Need-returns
+unfolding goodNumbers
+returns c = search cases
+
+good-length-requires : tie.Need-good-length-requires
+good-length-requires c κs = search needs
+
+returns-2 : tie.Need-returns-2
+unfolding goodNumbers
+returns-2 c = search cases
+
+mul-if4 : tie.Need-mul-if4
+mul-if4 c = search needs
+
+add-if4 : tie.Need-add-if4
+add-if4 c = search needs
+
+returns-3 : tie.Need-returns-3
+unfolding goodNumbers
+returns-3 c = search (lt-y, lt-n, call-y)
+
+returns-4 : tie.Need-returns-4
+unfolding goodNumbers
+returns-4 c = search (lt-y, lt-n, call-y)
+
+returns-5 : tie.Need-returns-5
+unfolding goodNumbers
+returns-5 c = search (lt-y, lt-n, call-y) depth 9
+
+returns-6 : tie.Need-returns-6
+unfolding goodNumbers
+returns-6 c = search (lt-y, lt-n, call-y) depth 9
+
+returns-7 : tie.Need-returns-7
+unfolding goodNumbers
+returns-7 c = search cases
+
+pub good-numbers-spec : {M : Type 1} → statement M
+good-numbers-spec =
+    tie.close
+    (tie.spec
+    cast-count
+    cast-size
+    cast-directory
+    cast-records
+    cast-base
+    returns
+    good-length-requires
+    returns-2
+    mul-if4
+    add-if4
+    returns-3
+    returns-4
+    returns-5
+    returns-6
+    returns-7)
