@@ -69,7 +69,7 @@ fn agrees_with(key: Key, e: Entry, part: &[u8]) -> bool
 }
 
 // The key that an entry leaves.
-fn key_of(e: Entry, part: &[u8]) -> Key
+pub fn key_of(e: Entry, part: &[u8]) -> Key
     ensures { λ r. ⌜ r ≡ keyOf e (now (part .entry)) ⌝ }
 {
     Key {

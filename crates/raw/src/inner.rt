@@ -260,7 +260,7 @@ fn resident_span(number: RecordNumber, h: Attribute, f: ResidentHeader) -> Spann
 }
 
 // Where the run bytes stand: 12.
-fn runs_span(number: RecordNumber, h: Attribute, f: NonResidentHeader) -> Valued
+pub fn runs_span(number: RecordNumber, h: Attribute, f: NonResidentHeader) -> Valued
     requires { ⌜ h .offset + h .length ≤ 4096 ⌝ }
     ensures { λ r. ⌜ toldValued r ≡ runsSpan number h f ⌝ }
 {

@@ -1,0 +1,2 @@
+-- What the parts' proofs and the layers above lean on.
+pub mod Stages

@@ -1,0 +1,99 @@
+-- 01, "Parts": one entry after another, from the item's own on.
+use Prim.Native.Nat.{ℕ, zero, suc, _+_, _-_}
+use mathlib.Core.List.{List, [], _∷_}
+use mathlib.Core.Option.{Option}
+use lib.Dec.{ltb}
+use Rattle.fields.specs.Pick.{pick}
+use Rattle.fields.specs.Answer.{Answer, gives, ends, refuses, refusal, Counted}
+use Rattle.fields.specs.declared.RecordNumber.{RecordNumber}
+use Rattle.list.specs.Entry.{entryOf}
+use Rattle.list.specs.declared.Entry.{Entry}
+use Rattle.items.specs.State.{listAt, noKey, partOf as listPart}
+use Rattle.items.specs.declared.Rest.{Rest}
+use Rattle.items.specs.declared.Key.{Key}
+use Rattle.parts.specs.Join.{judgePart, keyFor}
+use Rattle.parts.specs.Part.{partOf}
+use Rattle.parts.specs.declared.Part.{Part}
+use Rattle.parts.specs.declared.Cursor.{Cursor}
+use Rattle.parts.specs.declared.Ended.{Ended}
+use Rattle.parts.specs.declared.Ended.the-variants as ended
+use Rattle.parts.specs.declared.PartKind.{PartKind}
+use Rattle.parts.specs.declared.PartKind.the-variants as kind
+use Rattle.parts.specs.declared.PartTurn.{PartTurn}
+
+-- how parts end, case by case: whole, or a refusal
+abbrev pub toldEnded : Ended → Answer Unit
+toldEnded ended.Whole = gives tt
+toldEnded (ended.Refused r) = refuses r
+
+-- one step: a part and where the next step begins, or how the parts end; each with what was read
+pub data Stepped : Type 0 where
+  lists : Part → Cursor → ℕ → Stepped
+  stops : Answer Unit → ℕ → Stepped
+
+abbrev pub toldKind : PartKind → Cursor → ℕ → Stepped
+toldKind (kind.Lists p) c k = lists p c k
+toldKind (kind.Stops e) c k = stops (toldEnded e) k
+
+-- what a step says, case by case
+abbrev pub toldTurn : PartTurn → Stepped
+toldTurn t = toldKind (t .kind) (t .next) (t .reads)
+
+abbrev pub cursor : Rest → Key → Cursor
+cursor l k = record { list = l; key = k }
+
+-- past an entry, with the key
+abbrev pub cursorPast : Cursor → Entry → Key → Cursor
+cursorPast c e k = cursor (listAt (c .list .from + e .length) (c .list .to)) k
+
+-- the entry counts one, and the part what was read for it
+unfoldable pub stepAfter : Cursor → Answer Part → ℕ → Stepped
+stepAfter next (gives p) k = lists p next (k + 1)
+stepAfter next ends k = stops ends (k + 1)
+stepAfter next (refuses r) k = stops (refuses r) (k + 1)
+
+unfoldable pub stepPart : Cursor → Counted Part → Stepped
+stepPart next c = stepAfter next (c .answer) (c .reads)
+
+module _ (s : List ℕ) (n : RecordNumber) (look : RecordNumber → Option (List ℕ)) (room : ℕ) where
+  -- an entry that goes on with the stream, after k parts: "With no room for the next part: 20, before the lookup"
+  unfoldable pub stepJoined : ℕ → Cursor → Entry → ℕ → Answer Unit → Stepped
+  stepJoined k next e place (gives u) = pick (ltb k room) (stepPart next (partOf s n look e place)) (stops (refuses (refusal 20 n place)) 1)
+  stepJoined k next e place ends = stops (gives tt) 1
+  stepJoined k next e place (refuses r) = stops (refuses r) 1
+
+  -- an entry given, with the key that it is judged by
+  unfoldable pub stepKeyed : ℕ → Cursor → Entry → List ℕ → Key → Stepped
+  stepKeyed k c e part key = stepJoined k (cursorPast c e key) e (c .list .from) (judgePart key e part n (c .list .from))
+
+  -- "Reading an entry may refuse by 14 to 16 .. and a place where none is given makes no parts"
+  unfoldable pub stepEntered : ℕ → Cursor → List ℕ → Answer Entry → Stepped
+  stepEntered k c part (gives e) = stepKeyed k c e part (keyFor (c .key) e part)
+  stepEntered k c part ends = stops (gives tt) 0
+  stepEntered k c part (refuses r) = stops (refuses r) 0
+
+  -- one step, after k parts
+  unfoldable pub stepIn : ℕ → Cursor → Stepped
+  stepIn k c = stepEntered k c (listPart s (c .list)) (entryOf (listPart s (c .list)) n (c .list .from))
+
+  -- the parts in list order, how they end, and what was read
+  pub record Listing : Type 0 where
+    pub parts : List Part
+    pub answer : Answer Unit
+    pub reads : ℕ
+
+  abbrev pub listing : List Part → Answer Unit → ℕ → Listing
+  listing ps a k = record { parts = ps; answer = a; reads = k }
+
+  unfoldable pub partsAfter : (Cursor → Listing) → Stepped → Listing
+  partsAfter on (stops a k) = listing [] a k
+  partsAfter on (lists p c k) = listing (p ∷ on c .parts) (on c .answer) (k + on c .reads)
+
+  -- at most f steps, after k parts
+  unfoldable pub partsRun : ℕ → ℕ → Cursor → Listing
+  partsRun zero k c = listing [] (gives tt) 0
+  partsRun (suc f) k c = partsAfter (partsRun f (k + 1)) (stepIn k c)
+
+  -- "An item of the raw walk has no parts"; each step takes an entry, so as many as the list has bytes are enough
+  unfoldable pub partsIn : Rest → Listing
+  partsIn l = pick (l .is) (partsRun (suc (l .to - l .from)) 0 (cursor l noKey)) (listing [] (gives tt) 0)
