@@ -1,23 +1,17 @@
 """Holds the layers `fields` and `raw`, as built, to the second reading of document 01 (reading.py).
 
 Every question goes to the program `ask` and every line that it writes is compared. Fails at any difference.
-
-`rt check` and `rt ci` leave each proved program at target/bin/NAME; `rt ci` removes target/ first, so the program there
-is the one that this very run proved. `python3 tests/raw.py sample` writes the files stdin and stdout of the crate ask.
+`python3 tests/raw.py sample` writes the files stdin and stdout of the crate ask.
 """
 import glob
 import os
-import platform
 import random
 import struct
-import subprocess
 import sys
-import tempfile
 from typing import NamedTuple
 
 import reading
-
-ROOT = os.path.dirname(os.path.dirname(os.path.abspath(__file__)))
+from asking import LAST, ROOT, Asker, of, said, said_bytes
 
 # The kinds, by the call that answers.
 (
@@ -32,10 +26,7 @@ CALLS = (
 SEED = 20240311
 DAMAGED = 100_000
 ON_AN_ATTRIBUTE = (STEP, ATTRIBUTE, NAME, NAME_VIEW, FULL, VALUE, VALUE_VIEW, LIST)
-LAST = 2 ** 64 - 1
 
-
-# Questions to a built program, in batches.
 
 class Question(NamedTuple):
     kind: int
@@ -46,185 +37,59 @@ class Question(NamedTuple):
     record: bytes = b""
 
 
-def packed(q):
-    return struct.pack("<BQQIHH", q.kind, q.number, q.place, q.ty, q.instance, len(q.record)) + q.record
-
-
-def command(name):
-    """How a built program is run. Programs are for x86-64; on another machine the toolchain has an emulator."""
-    path = os.path.join(ROOT, "target", "bin", name)
-    if not os.path.exists(path):
-        sys.exit("no target/bin/%s: run `rt check %s` first" % (name, name))
-    if platform.machine() == "x86_64":
-        return [path]
-    # `rt doc` prints a file of the toolchain's own folder: KIT/docs/START-HERE.md
-    guide = subprocess.run(["rt", "doc"], stdout=subprocess.PIPE, check=True, text=True).stdout.strip()
-    tools = os.path.join(os.path.dirname(os.path.dirname(guide)), "on", platform.machine(), "toolchain")
-    return [
-        os.path.join(tools, "bin", "qemu-x86_64"), os.path.join(tools, "lib", "ld-linux-x86-64.so.2"),
-        "--library-path", os.path.join(tools, "lib"), path,
-    ]
-
-
-def run(name, text):
-    """What a built program writes to this input. Files and no pipes, so that neither side waits for the other."""
-    with tempfile.TemporaryFile() as given, tempfile.TemporaryFile() as written:
-        given.write(text)
-        given.seek(0)
-        status = subprocess.run(command(name), stdin=given, stdout=written).returncode
-        if status != 0:
-            sys.exit("%s ended with status %d" % (name, status))
-        written.seek(0)
-        return written.read().decode("ascii", "backslashreplace")
-
-
-def answers_in(questions, text):
-    """The text cut into one answer for each question (a walk's has several lines), and what is left of it."""
-    at, cut = 0, []
-    for q in questions:
-        start = at
-        while True:
-            end = text.find("\n", at)
-            if end < 0:
-                cut.append(text[start:])
-                at = len(text)
-                break
-            line, at = text[at:end], end + 1
-            if q.kind != WALK or not line.startswith("attribute"):
-                cut.append(text[start:end])
-                break
-    return cut, text[at:]
-
-
-def differences(questions, expected, text):
-    """(question, expected, found) wherever the program's text is not what is expected."""
-    if text == "".join(e + "\n" for e in expected):
-        return []
-    found, rest = answers_in(questions, text)
-    different = [(q, e, f) for q, e, f in zip(questions, expected, found) if e != f]
-    if rest or not different:
-        different.append((None, "nothing more", rest))
-    return different
-
-
-def stop_at(different, asked):
-    """Ends the test where there is a difference, and shows the first ones."""
-    for q, expected, found in different[:5]:
-        print("question %s" % (packed(q).hex() if q else "none: behind the last answer"))
-        if q:
-            print("    %s, %s" % (CALLS[q.kind], q._replace(record="%d bytes" % len(q.record))))
-        print("    expected %r" % expected)
-        print("    found    %r" % found)
-    if different:
-        sys.exit("%d of %d answers differ" % (len(different), asked))
-
-
-class Asker:
-    """Gathers questions with their expected answers, asks them in batches, and stops the test at a difference."""
-
-    BATCH = 32_000_000
-
-    def __init__(self):
-        self.questions, self.expected, self.size = [], [], 0
-        self.asked = [0] * len(KINDS)
-        self.refusals = {}
-
-    def ask(self, q, expected):
-        self.questions.append(q)
-        self.expected.append(expected)
-        self.size += 25 + len(q.record)
-        if self.size >= self.BATCH:
-            self.flush()
-
-    def flush(self):
-        if not self.questions:
-            return
-        text = run("ask", b"".join(map(packed, self.questions)))
-        stop_at(differences(self.questions, self.expected, text), len(self.questions))
-        for q in self.questions:
-            self.asked[q.kind] += 1
-        # the refusals that the program itself gave, each counted once a line
-        for line in text.split("\n"):
-            if "refused " in line:
-                refusal = int(line.split("refused ")[1].split(" ")[0])
-                self.refusals[refusal] = self.refusals.get(refusal, 0) + 1
-        self.questions, self.expected, self.size = [], [], 0
-
-    def report(self):
-        for call, asked in zip(CALLS, self.asked):
-            print("%9d  %s" % (asked, call))
-        print("%9d  questions compared" % sum(self.asked))
-        print("refusals given: %s" % ", ".join("%d (%d)" % pair for pair in sorted(self.refusals.items())))
-
-
 # What is expected, from the second reading.
 
-def said(answer):
-    """An answer in the program's words."""
-    if answer is None:
-        return "end"
-    if isinstance(answer, reading.Refusal):
-        return "refused %d %d %d" % (answer.number, answer.file, answer.place)
-    word = {
-        reading.Attribute: "attribute", reading.Header: "header", reading.Span: "span", reading.Resident: "resident",
-        reading.NonResident: "nonresident",
-    }[type(answer)]
-    return " ".join([word] + [str(int(n)) for n in answer])
+WORDS = {
+    reading.Attribute: "attribute", reading.Header: "header", reading.Span: "span", reading.Resident: "resident",
+    reading.NonResident: "nonresident",
+}
 
 
-def said_value(answer):
+def told(answer):
+    return said(answer, WORDS)
+
+
+def told_value(answer):
     if isinstance(answer, reading.Runs):
         return "value runs %d %d %d" % answer
     if isinstance(answer, reading.Span):
         return "value resident %d %d" % answer
-    return said(answer)
-
-
-def said_view(answer):
-    return " ".join(["view", str(len(answer))] + [str(b) for b in answer])
-
-
-def of(call, *given):
-    """What a call answers, its refusal included."""
-    try:
-        return call(*given)
-    except reading.Refusal as refusal:
-        return refusal
+    return told(answer)
 
 
 def expected(q):
     at_place = q.record, q.number, q.place
     if q.kind == HEADER:
-        return said(of(reading.header, q.record, q.number))
+        return told(of(reading.header, q.record, q.number))
     if q.kind == STEP:
-        return said(of(reading.step, *at_place))
+        return told(of(reading.step, *at_place))
     if q.kind == NAME:
-        return said(of(reading.name, *at_place))
+        return told(of(reading.name, *at_place))
     if q.kind == FULL:
-        return said(of(reading.full, *at_place))
+        return told(of(reading.full, *at_place))
     if q.kind == VALUE:
-        return said_value(of(reading.value, *at_place))
+        return told_value(of(reading.value, *at_place))
     if q.kind == NAME_VIEW:
-        return said_view(reading.view(q.record, reading.name, q.number, q.place))
+        return said_bytes("view", reading.view(q.record, reading.name, q.number, q.place))
     if q.kind == VALUE_VIEW:
-        return said_view(reading.view(q.record, reading.value, q.number, q.place))
+        return said_bytes("view", reading.view(q.record, reading.value, q.number, q.place))
     if q.kind == ATTRIBUTE:
-        return said(of(reading.attribute_at, *at_place))
+        return told(of(reading.attribute_at, *at_place))
     if q.kind == LIST:
-        return said(of(lambda: reading.opened_list(q.record, q.number, reading.attribute_at(*at_place))))
+        return told(of(lambda: reading.opened_list(q.record, q.number, reading.attribute_at(*at_place))))
     if q.kind == FIND:
         base = (q.number + 1) % 2 ** 64
         reads, answer = reading.find(q.record, q.number, q.ty, q.instance, base, q.place)
-        return "found %d %s" % (reads, said(answer))
+        return "found %d %s" % (reads, told(answer))
     if q.kind == OPENING_IN:
         refusal = of(reading.opening, *at_place)
-        return "passed" if refusal is None else said(refusal)
+        return "passed" if refusal is None else told(refusal)
     if q.kind == KNOWN_TYPE:
         return "is %d" % (q.ty in reading.KNOWN)
     if q.kind == FLAGS:
         return "flags %d" % (q.instance & reading.ATTRIBUTE_FLAGS)
     assert q.kind == WALK
-    return "\n".join(said(a) for a in reading.walk(q.record, q.number))
+    return "\n".join(told(a) for a in reading.walk(q.record, q.number))
 
 
 # Records, made by hand.
@@ -260,20 +125,31 @@ END = struct.pack("<I", reading.MARKER)
 
 
 class Test(Asker):
+    PROGRAM = "ask"
+    CALLS = CALLS
+    HEAD = 25
+
+    def packed(self, q):
+        return struct.pack("<BQQIHH", q.kind, q.number, q.place, q.ty, q.instance, len(q.record)) + q.record
+
+    def shown(self, q):
+        return q._replace(record="%d bytes" % len(q.record))
+
+    def expected(self, q):
+        return expected(q)
+
+    def goes_on(self, q, line):
+        return q.kind == WALK and line.startswith("attribute")
+
     def put(self, kind, record_=b"", **more):
-        q = Question(kind, record=record_, **more)
-        self.ask(q, expected(q))
+        self.put_question(Question(kind, record=record_, **more))
 
     def put_all(self, record_, place, kinds=ON_AN_ATTRIBUTE, **more):
         for kind in kinds:
             self.put(kind, record_, place=place, **more)
 
     def put_literal(self, answer, kind, record_=b"", **more):
-        """An answer that the document gives itself: neither the program nor the second reading may differ."""
-        q = Question(kind, record=record_, **more)
-        if expected(q) != answer:
-            sys.exit("the second reading differs from the document: %s, %r for %r" % (q, expected(q), answer))
-        self.ask(q, answer)
+        self.put_literal_question(answer, Question(kind, record=record_, **more))
 
     # The document's own examples.
 
@@ -525,73 +401,22 @@ class Test(Asker):
                 self.probe(self.damaged(r, chance), number, chance)
 
 
-# Tests of the test.
-
 def sample():
     """One question of each kind about the document's whole case. The program's files stdin and stdout have them."""
     r = record(128, 56, [(56, resident(16, 32, 8)), (88, resident(128, 24, 0, instance=1)), (112, END)])
     return [Question(kind, place=56, ty=128, instance=1, record=r) for kind in (*KINDS, WALK, STEP)]
 
 
-def sample_files():
-    """What rt ci runs the program on is what this test asks: `python3 tests/raw.py sample` writes the two files anew."""
-    folder = os.path.join(ROOT, "crates", "ask")
-    return (
-        (os.path.join(folder, "stdin"), b"".join(map(packed, sample()))),
-        (os.path.join(folder, "stdout"), "".join(expected(q) + "\n" for q in sample()).encode()),
-    )
-
-
-def write_samples():
-    for path, text in sample_files():
-        with open(path, "wb") as out:
-            out.write(text)
-
-
-def samples():
-    for path, text in sample_files():
-        with open(path, "rb") as given:
-            if given.read() != text:
-                sys.exit("%s is not what `python3 tests/raw.py sample` writes" % os.path.relpath(path, ROOT))
-
-
-def notices():
-    """A comparison that never fails shows nothing: one changed byte, a lost line and a line too many must be noticed."""
-    questions = sample()
-    right = [expected(q) for q in questions]
-    text = run("ask", b"".join(map(packed, questions)))
-    stop_at(differences(questions, right, text), len(questions))
-    for k, answer in enumerate(right):
-        for at in (0, len(answer) // 2, len(answer) - 1):
-            wrong = list(right)
-            wrong[k] = answer[:at] + chr(ord(answer[at]) ^ 1) + answer[at + 1:]
-            different = differences(questions, wrong, text)
-            assert [q for q, _, _ in different] == [questions[k]], (k, at, different)
-    assert differences(questions, right, text[:-1])
-    assert differences(questions, right, text[:text.rindex("\n", 0, -1) + 1])
-    assert differences(questions, right, text + "end\n")
-    assert differences(questions, right, "")
-
-
-def cut_questions():
-    """A question that is cut ends the program, without an answer to it."""
-    q = Question(STEP, place=56, record=record(64, 56))
-    whole = packed(q)
-    for cut in (0, 1, 24, 25, 26, len(whole) - 1):
-        text = run("ask", whole + whole[:cut])
-        stop_at(differences([q], [expected(q)], text), 1)
-
-
 def main():
     sys.stdout.reconfigure(line_buffering=True)
-    if sys.argv[1:] == ["sample"]:
-        write_samples()
-        return
-    samples()
-    notices()
-    cut_questions()
-    print("raw: seed %d, %d damaged and random records" % (SEED, DAMAGED))
     test = Test()
+    if sys.argv[1:] == ["sample"]:
+        test.write_samples(sample())
+        return
+    test.samples(sample(), "tests/raw.py")
+    test.notices(sample())
+    test.cut(Question(STEP, place=56, record=record(64, 56)))
+    print("raw: seed %d, %d damaged and random records" % (SEED, DAMAGED))
     test.whole_case()
     test.both_sides()
     test.record_lengths()
@@ -604,13 +429,7 @@ def main():
     test.flags()
     test.finds()
     test.volumes(random.Random(SEED))
-    test.flush()
-    test.report()
-    missing = {1, 2, 3, 4, 5, 6, 7, 8, 9, 10, 11, 12, 13, 18} - set(test.refusals)
-    if missing:
-        sys.exit("refusals that no question brought about: %s" % sorted(missing))
-    if 0 in test.asked:
-        sys.exit("a call that no question was asked of")
+    test.finish({1, 2, 3, 4, 5, 6, 7, 8, 9, 10, 11, 12, 13, 18})
 
 
 if __name__ == "__main__":

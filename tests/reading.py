@@ -6,6 +6,7 @@ not from the library's code: it shares no definition with it, so that a slip in 
 A refusal is raised, an end is None, everything else is returned. Offsets that an answer tells of count from the
 record's start.
 """
+import struct
 from typing import NamedTuple
 
 
@@ -64,6 +65,27 @@ class Runs(NamedTuple):
     start: int
     count: int
     size: int
+
+
+class Entry(NamedTuple):
+    """A list entry; `file` is the record number of its reference."""
+
+    ty: int
+    length: int
+    units: int
+    lowest: int
+    file: int
+    instance: int
+
+
+class Table(NamedTuple):
+    """The five numbers of a well-formed table."""
+
+    count: int
+    size: int
+    directory: int
+    records: int
+    base: int
 
 
 MARKER = 0xFFFFFFFF
@@ -277,6 +299,126 @@ def walk(record, number):
         if a is None:
             return
         at += a.length
+
+
+# "List."
+
+ENTRY = struct.Struct("<IHBBQQH")
+
+
+def entry(rest, base, place):
+    """The list step. `rest` is the rest of the list from the entry on, which stands at `place` in the base record."""
+    # "Nothing left: end."
+    left = len(rest)
+    if left == 0:
+        return None
+    # "Else 14; 15; 16"; each is told with "the list entry's offset in the base record", so in the base record.
+    # 14: "under 26 bytes left"
+    if left < 26:
+        raise Refusal(14, base, place)
+    # "List entry, 26 bytes then its name: type u32, entry length u16, name length u8, name offset u8, lowest VCN u64,
+    # reference u64 (low 48 bits the record number), instance u16."; "name offset is not consulted"
+    ty, length, units, _, lowest, reference, instance = ENTRY.unpack_from(rest)
+    # 15: "entry length under 26 + 2 × name units"
+    if length < 26 + 2 * units:
+        raise Refusal(15, base, place)
+    # 16: "name cut": "The name is read at byte 26", in units of two bytes, and not all of it is left
+    if left - 26 < 2 * units:
+        raise Refusal(16, base, place)
+    # "then, where the entry is longer than what is left, end without giving it"
+    if length > left:
+        return None
+    return Entry(ty, length, units, lowest, reference % 2 ** 48, instance)
+
+
+def entry_name(rest, given):
+    """"An entry hands out its name in 510 bytes, zero past the name's end."; all are zero where no entry is given."""
+    # "The name is read at byte 26; name offset is not consulted."
+    name = bytes(rest[26:26 + 2 * given.units]) if isinstance(given, Entry) else b""
+    return name.ljust(510, b"\0")
+
+
+# "The lent table."
+
+NUMBERS = struct.Struct("<5I")
+ROW = struct.Struct("<QI")
+
+
+def check_table(table):
+    """Check 21: "Checked in this order, each fault being 21"."""
+    # "For 21 the record is 0, and the place 0 or the row's offset."
+    malformed = Refusal(21, 0, 0)
+    # "under 20 bytes"
+    if len(table) < 20:
+        raise malformed
+    # "Header of five u32: count, record size, directory offset, records offset, base row."
+    t = Table(*NUMBERS.unpack_from(table))
+    # "count over 4,096; record size under 64, over 4,096 or not a multiple of 8"
+    if t.count > 4096:
+        raise malformed
+    if t.size < 64 or t.size > 4096 or t.size % 8 != 0:
+        raise malformed
+    # "directory offset under 20; directory end past the records offset; records offset past the table"
+    if t.directory < 20:
+        raise malformed
+    if t.directory + 12 * t.count > t.records:
+        raise malformed
+    if t.records > len(table):
+        raise malformed
+    # "base row above count"
+    if t.base > t.count:
+        raise malformed
+    # "Then row by row": settled as all three tests on a row before the next, at the place where the row itself stands
+    before = None
+    for place in range(t.directory, t.directory + 12 * t.count, 12):
+        # "A directory row is 12 bytes: record number u64, offset u32 from the table's start."
+        number, offset = ROW.unpack_from(table, place)
+        # "number at or above 2^48; not above the row before"
+        if number >= 2 ** 48 or (before is not None and number <= before):
+            raise Refusal(21, 0, place)
+        # "record not wholly between records offset and the table's end"
+        if offset < t.records or offset + t.size > len(table):
+            raise Refusal(21, 0, place)
+        before = number
+    return t
+
+
+def base_row(t):
+    """"Base row equal to count means none." """
+    return None if t.base == t.count else t.base
+
+
+def open_table(record, number, table):
+    """"Order: 21, 1, 2"; 1 with its last clause, "or not the lent table's record size"."""
+    t = check_table(table)
+    opening(record, number, t.size)
+    return t
+
+
+def lookup(record, number, table, wanted, place):
+    """The record with the number wanted, for a base record with its own number. `place` is what a bare call is to blame."""
+    open_table(record, number, table)
+    # "Looking up a number answers with a part of the base record or of the table: the lent base record where the number is
+    # the base's, even if the table has it too."; settled: the base's number is the one lent with it, of any size
+    if wanted == number:
+        found = record
+    else:
+        found = next((r for n, r in rows(table) if n == wanted), None)
+    # 17: "record not in table", in the base record at the place blamed
+    if found is None:
+        raise Refusal(17, number, place)
+    # "The record must pass check 2."; its place is 0, "in the record tested"
+    if found[:4] != b"FILE":
+        raise Refusal(2, wanted, 0)
+    return found
+
+
+def lookup_view(*given):
+    """The record's bytes; none where the lookup refuses."""
+    try:
+        return lookup(*given)
+    except Refusal:
+        return b""
 
 
 def rows(table):

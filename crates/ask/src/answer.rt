@@ -1,10 +1,6 @@
 // The answers as words and decimal numbers. A function that starts in mid-line is handed where the line ends; the others start at the front.
-use crate::text::put_number;
-use crate::text::put_text;
-use crate::text::put_words;
 use fields::HeaderRead;
 use fields::Opened;
-use fields::Refusal;
 use raw::Attribute;
 use raw::Checked;
 use raw::Found;
@@ -13,6 +9,11 @@ use raw::RawStep;
 use raw::Span;
 use raw::Spanned;
 use raw::Valued;
+use words::put_bytes;
+use words::put_number;
+use words::put_refused;
+use words::put_text;
+use words::put_words;
 
 // 1 for true.
 fn bit(b: bool) -> u64 {
@@ -25,16 +26,6 @@ pub fn put_bool(out: &mut [u8], b: bool) -> usize {
 
 pub fn put_flags(out: &mut [u8], flags: u16) -> usize {
     put_words(out, 0, b"flags", &[flags as u64])
-}
-
-pub fn put_refused(out: &mut [u8], at: usize, r: Refusal) -> usize {
-    let file = r.file;
-    put_words(
-        out,
-        at,
-        b"refused",
-        &[r.number as u64, file.0, r.place as u64],
-    )
 }
 
 fn put_attribute(out: &mut [u8], at: usize, h: Attribute) -> usize {
@@ -151,13 +142,6 @@ pub fn put_valued(out: &mut [u8], v: Valued) -> usize {
     }
 }
 
-// How many bytes a view has, and each of them.
 pub fn put_view(out: &mut [u8], v: &[u8]) -> usize {
-    let mut end = put_words(out, 0, b"view", &[v.len() as u64]);
-    let mut i: usize = 0;
-    while i < v.len() {
-        end = put_number(out, end, v[i] as u64);
-        i += 1;
-    }
-    end
+    put_bytes(out, 0, b"view", v)
 }

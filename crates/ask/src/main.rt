@@ -1,15 +1,15 @@
-// Asks the library: reads questions from standard input and writes the answer to each on a line, for tests that compare the answers with a second reading of the rules.
+// Asks the layers `fields` and `raw`: reads questions from standard input and writes the answer to each on a line, for tests that compare the answers with a second reading of the rules.
 // A question is kind u8, record number u64, place u64, type u32, instance u16, length u16, all little-endian, then as many bytes of a record as the length says.
 // The program ends where the questions end, and at a question that is cut.
 mod answer;
-mod text;
 
 use fields::RecordNumber;
 use fields::inner::u16_at;
 use fields::inner::u32_at;
 use fields::inner::u64_at;
 use libc::STDIN_FILENO;
-use libc::STDOUT_FILENO;
+use words::read_part;
+use words::write_line;
 
 struct Question {
     kind: u8,
@@ -66,7 +66,7 @@ fn put_search(out: &mut [u8], s: &[u8], q: Question) -> usize {
 fn put_list(out: &mut [u8], s: &[u8], number: RecordNumber, place: usize) -> usize {
     let a = raw::attribute_at(s, number, place);
     match a {
-        raw::Checked::Refused(r) => answer::put_refused(out, 0, r),
+        raw::Checked::Refused(r) => words::put_refused(out, 0, r),
         raw::Checked::Given(h) => answer::put_spanned(out, raw::inner::list_of(s, number, h)),
     }
 }
@@ -80,27 +80,12 @@ fn put_walk(out: &mut [u8], s: &[u8], number: RecordNumber) -> usize {
         end = answer::put_step(out, end, a);
         match a {
             raw::RawStep::Given(h) => {
-                end = text::put_byte(out, end, b'\n');
+                end = words::put_byte(out, end, b'\n');
                 at += h.length;
             }
             _ => return end,
         }
     }
-}
-
-// Puts the question's record at the front of the buffer, and answers whether all of it came.
-fn read_record(space: &mut [u8], length: usize) -> bool {
-    if space.len() < length {
-        return false;
-    }
-    io::read_full(STDIN_FILENO, &mut space[..length]) == length
-}
-
-fn write_line(out: &[u8], end: usize) -> bool {
-    if out.len() < end {
-        return false;
-    }
-    io::write_all(STDOUT_FILENO, &out[..end])
 }
 
 fn put_line(out: &mut [u8], space: &[u8], q: Question) -> usize {
@@ -109,7 +94,7 @@ fn put_line(out: &mut [u8], space: &[u8], q: Question) -> usize {
         return 0;
     }
     let end = put_answer(out, &space[..length], q);
-    text::put_byte(out, end, b'\n')
+    words::put_byte(out, end, b'\n')
 }
 
 // Answers one question, and says whether to go on.
@@ -120,7 +105,7 @@ fn turn(space: &mut [u8], out: &mut [u8]) -> bool {
         return false;
     }
     let q = read_head(&head);
-    if !read_record(space, q.length) {
+    if !read_part(space, q.length) {
         return false;
     }
     let end = put_line(out, space, q);

@@ -92,7 +92,7 @@ pub fn fresh(s: &[u8]) -> State
 }
 
 // Check 22: whether a state's list lies inside the record.
-fn inside(s: &[u8], number: RecordNumber, l: Rest) -> Opened
+pub fn inside(s: &[u8], number: RecordNumber, l: Rest) -> Opened
     ensures { λ r. ⌜ toldOpened r ≡ insideOf (now (s .entry)) number l ⌝ }
 {
     if l.is {

@@ -1,12 +1,14 @@
 -- How a part's proof goes from stage to stage: what a call answered, and what the match on it found.
 use Prim.Native.Nat.{ℕ, _≤_}
 use mathlib.Core.Path.{_≡_, refl, sym, ap, _∙_}
-use mathlib.Core.List.{List}
+use mathlib.Core.List.{List, []}
+use mathlib.Core.Bool.{true, false}
 use mathlib.Core.Option.{Option}
 use lib.ListN.{length}
 use Rattle.fields.specs.Answer.{Answer, gives, refuses, refusal, Counted, _⟫_}
 use Rattle.fields.specs.declared.RecordNumber.{RecordNumber}
 use Rattle.fields.specs.declared.Refusal.{Refusal}
+use Rattle.fields.proofs.Cases.{yes, no}
 use Rattle.raw.specs.Attribute.{toldChecked, Inside}
 use Rattle.raw.specs.Find.{toldFound, findOf}
 use Rattle.raw.specs.declared.Attribute.{Attribute}
@@ -19,10 +21,12 @@ use Rattle.list.specs.Entry.{entryOf}
 use Rattle.list.specs.declared.Entry.{Entry}
 use Rattle.items.specs.State.{partOf as listPart}
 use Rattle.items.specs.declared.Key.{Key}
+use Rattle.items.specs.declared.Rest.{Rest}
+use Rattle.table.specs.Held.{recordOf}
 use Rattle.parts.specs.Join.{judgePart}
 use Rattle.table.specs.Lookup.{lookupIn}
 use Rattle.parts.specs.Part.{toldRead, countedPart, toldPart, partIn, partFound, partLooked, partOf}
-use Rattle.parts.specs.Parts.{Stepped, cursorPast, stepAfter, stepPart, stepJoined, stepKeyed, stepEntered, stepIn}
+use Rattle.parts.specs.Parts.{Stepped, cursorPast, stepAfter, stepPart, stepJoined, stepKeyed, stepEntered, stepIn, listing, partsFrom, partsIn, partsOpened}
 use Rattle.parts.specs.declared.Part.{Part}
 use Rattle.parts.specs.declared.PartRead.{PartRead}
 use Rattle.parts.specs.declared.PartFound.{PartFound}
@@ -68,3 +72,17 @@ module _ (s : List ℕ) (n : RecordNumber) (look : RecordNumber → Option (List
       → x ≡ stepEntered s n look room k c (listPart s (c .list)) a → x ≡ stepIn s n look room k c
   unfolding stepIn
   entered p h = h ∙ ap (stepEntered s n look room k c (listPart s (c .list))) p
+
+-- the opening checks refused, or passed
+module _ (s : List ℕ) (n : RecordNumber) (t : List ℕ) (room : ℕ) (l : Rest) {x : Answer Unit} where
+  pub parts-refused : {r : Refusal} → refuses r ≡ x → listing [] (refuses r) 0 ≡ partsOpened s n t room l x
+  unfolding partsOpened
+  parts-refused e = ap (partsOpened s n t room l) e
+
+  pub parts-listed : {u : Unit} → gives u ≡ x → l .is ≡ true → partsFrom s n (recordOf t) room l ≡ partsOpened s n t room l x
+  unfolding partsOpened partsIn
+  parts-listed e y = yes _ _ _ y refl ∙ ap (partsOpened s n t room l) e
+
+  pub parts-none : {u : Unit} → gives u ≡ x → l .is ≡ false → listing [] (gives tt) 0 ≡ partsOpened s n t room l x
+  unfolding partsOpened partsIn
+  parts-none e y = no _ _ _ y refl ∙ ap (partsOpened s n t room l) e

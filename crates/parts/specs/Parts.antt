@@ -1,20 +1,25 @@
 -- 01, "Parts": one entry after another, from the item's own on.
 use Prim.Native.Nat.{ℕ, zero, suc, _+_, _-_}
-use mathlib.Core.List.{List, [], _∷_}
+use mathlib.Core.Path.{_≡_}
+use mathlib.Core.List.{List, [], _∷_, _++_}
 use mathlib.Core.Option.{Option}
 use lib.Dec.{ltb}
+use lib.ListN.{length, drop, replicate}
 use Rattle.fields.specs.Pick.{pick}
-use Rattle.fields.specs.Answer.{Answer, gives, ends, refuses, refusal, Counted}
+use Rattle.fields.specs.Answer.{Answer, gives, ends, refuses, refusal, Counted, _⟫_}
 use Rattle.fields.specs.declared.RecordNumber.{RecordNumber}
 use Rattle.list.specs.Entry.{entryOf}
 use Rattle.list.specs.declared.Entry.{Entry}
-use Rattle.items.specs.State.{listAt, noKey, partOf as listPart}
+use Rattle.table.specs.Check.{openTable}
+use Rattle.table.specs.Held.{recordOf}
+use Rattle.items.specs.State.{listAt, noKey, partOf as listPart, insideOf}
 use Rattle.items.specs.declared.Rest.{Rest}
 use Rattle.items.specs.declared.Key.{Key}
 use Rattle.parts.specs.Join.{judgePart, keyFor}
 use Rattle.parts.specs.Part.{partOf}
 use Rattle.parts.specs.declared.Part.{Part}
 use Rattle.parts.specs.declared.Cursor.{Cursor}
+use Rattle.parts.specs.declared.Collected.{Collected}
 use Rattle.parts.specs.declared.Ended.{Ended}
 use Rattle.parts.specs.declared.Ended.the-variants as ended
 use Rattle.parts.specs.declared.PartKind.{PartKind}
@@ -55,6 +60,19 @@ stepAfter next (refuses r) k = stops (refuses r) (k + 1)
 unfoldable pub stepPart : Cursor → Counted Part → Stepped
 stepPart next c = stepAfter next (c .answer) (c .reads)
 
+-- the parts in list order, how they end, and what was read
+pub record Listing : Type 0 where
+  pub parts : List Part
+  pub answer : Answer Unit
+  pub reads : ℕ
+
+abbrev pub listing : List Part → Answer Unit → ℕ → Listing
+listing ps a k = record { parts = ps; answer = a; reads = k }
+
+unfoldable pub partsAfter : (Cursor → Listing) → Stepped → Listing
+partsAfter on (stops a k) = listing [] a k
+partsAfter on (lists p c k) = listing (p ∷ on c .parts) (on c .answer) (k + on c .reads)
+
 module _ (s : List ℕ) (n : RecordNumber) (look : RecordNumber → Option (List ℕ)) (room : ℕ) where
   -- an entry that goes on with the stream, after k parts: "With no room for the next part: 20, before the lookup"
   unfoldable pub stepJoined : ℕ → Cursor → Entry → ℕ → Answer Unit → Stepped
@@ -76,24 +94,44 @@ module _ (s : List ℕ) (n : RecordNumber) (look : RecordNumber → Option (List
   unfoldable pub stepIn : ℕ → Cursor → Stepped
   stepIn k c = stepEntered k c (listPart s (c .list)) (entryOf (listPart s (c .list)) n (c .list .from))
 
-  -- the parts in list order, how they end, and what was read
-  pub record Listing : Type 0 where
-    pub parts : List Part
-    pub answer : Answer Unit
-    pub reads : ℕ
-
-  abbrev pub listing : List Part → Answer Unit → ℕ → Listing
-  listing ps a k = record { parts = ps; answer = a; reads = k }
-
-  unfoldable pub partsAfter : (Cursor → Listing) → Stepped → Listing
-  partsAfter on (stops a k) = listing [] a k
-  partsAfter on (lists p c k) = listing (p ∷ on c .parts) (on c .answer) (k + on c .reads)
-
   -- at most f steps, after k parts
   unfoldable pub partsRun : ℕ → ℕ → Cursor → Listing
   partsRun zero k c = listing [] (gives tt) 0
   partsRun (suc f) k c = partsAfter (partsRun f (k + 1)) (stepIn k c)
 
-  -- "An item of the raw walk has no parts"; each step takes an entry, so as many as the list has bytes are enough
+  -- from the item's own entry on; each step takes an entry, so as many steps as the list has bytes are enough
+  unfoldable pub partsFrom : Rest → Listing
+  partsFrom l = partsRun (suc (l .to - l .from)) 0 (cursor l noKey)
+
+  -- "An item of the raw walk has no parts"
   unfoldable pub partsIn : Rest → Listing
-  partsIn l = pick (l .is) (partsRun (suc (l .to - l .from)) 0 (cursor l noKey)) (listing [] (gives tt) 0)
+  partsIn l = pick (l .is) (partsFrom l) (listing [] (gives tt) 0)
+
+-- refused by an opening check there are no parts, and nothing was read
+unfoldable pub partsOpened : List ℕ → RecordNumber → List ℕ → ℕ → Rest → Answer Unit → Listing
+partsOpened s n t room l (gives u) = partsIn s n (recordOf t) room l
+partsOpened s n t room l ends = listing [] ends 0
+partsOpened s n t room l (refuses r) = listing [] (refuses r) 0
+
+-- "Order: 21, 1, 2, 22, then the steps"
+unfoldable pub partsOf : List ℕ → RecordNumber → List ℕ → ℕ → Rest → Listing
+partsOf s n t room l = partsOpened s n t room l (openTable s n t ⟫ λ _. insideOf s n l)
+
+-- "filled from the front; records past the reported number are unchanged": a lent list after the parts were written to it
+unfoldable pub filled : List Part → List Part → List Part
+filled ps lent = ps ++ drop (length ps) lent
+
+-- what stands in an array before it is filled
+abbrev pub noPart : Part
+noPart = record { file = record { 0 = 0 }; offset = 0; lowest = record { 0 = 0 }; runs = record { from = 0; bytes = 0 }; size = 0; listed = record { 0 = 0 } }
+
+-- an array of them
+unfoldable pub blankParts : List Part
+blankParts = replicate 157 noPart
+
+-- parts collected by value into what stood before: which, how many, how they end, what was read
+pub record Collects (l : Listing) (before : List Part) (r : Collected) : Type 0 where
+  pub parts : r .parts ≡ filled (l .parts) before
+  pub count : r .count ≡ length (l .parts)
+  pub answer : toldEnded (r .answer) ≡ l .answer
+  pub reads : r .reads ≡ l .reads

@@ -1,4 +1,5 @@
 // One part after another, for callers that made the opening checks.
+use crate::Collected;
 use crate::Cursor;
 use crate::Ended;
 use crate::Joined;
@@ -9,6 +10,7 @@ use crate::PartRead;
 use crate::PartTurn;
 use fields::RecordNumber;
 use fields::Refusal;
+use fields::Vcn;
 use fields::known_type;
 use items::Key;
 use items::Rest;
@@ -19,6 +21,7 @@ use raw::Attribute;
 use raw::Checked;
 use raw::FullHeader;
 use raw::NonResidentHeader;
+use raw::Span;
 use raw::Valued;
 use table::Numbers;
 use table::Placed;
@@ -33,7 +36,7 @@ ghost use Rattle.table.specs.Held.{recordOf};
 ghost use Rattle.items.specs.State.{Ready};
 ghost use Rattle.parts.specs.Join.{toldJoined, judgePart, keyFor};
 ghost use Rattle.parts.specs.Part.{toldRead, toldPart, countedPart, partAfter, partIn, partFound, partOf};
-ghost use Rattle.parts.specs.Parts.{toldEnded, toldTurn, stops, cursorPast, stepPart, stepJoined, stepKeyed, stepIn};
+ghost use Rattle.parts.specs.Parts.{toldEnded, toldTurn, stops, cursorPast, stepPart, stepJoined, stepKeyed, stepIn, partsFrom, noPart, blankParts, Collects};
 
 fn no_part(n: u8, number: RecordNumber, place: usize) -> PartRead
     ensures { λ r. ⌜ toldRead r ≡ refuses (refusal n number place) ⌝ }
@@ -258,5 +261,61 @@ pub fn step<'a>(
             let key = key_for(c.key, e, part);
             step_keyed(base, number, t, h, part, room, k, c, e, key)
         }
+    }
+}
+
+// What stands in an array of parts before it is filled.
+pub fn blank() -> Part
+    ensures { λ r. ⌜ r ≡ noPart ⌝ }
+{
+    Part {
+        file: RecordNumber(0),
+        offset: 0,
+        lowest: Vcn(0),
+        runs: Span { from: 0, bytes: 0 },
+        size: 0,
+        listed: Vcn(0),
+    }
+}
+
+// The parts from an item's list on, by value: for callers that lend no list.
+pub fn collect<'a>(
+    base: &'a [u8],
+    number: RecordNumber,
+    t: &'a [u8],
+    h: Numbers,
+    l: Rest,
+) -> Collected
+    requires { ⌜ Ready (now base) (now t) h ⌝ }
+    requires { ⌜ (l .from ≤ l .to) × (l .to ≤ length (now base)) ⌝ }
+    ensures { λ r. ⌜ Collects (partsFrom (now (base .entry)) number (recordOf (now (t .entry))) 157 l) blankParts r ⌝ }
+{
+    let none = blank();
+    let mut parts = [none; 157];
+    let mut count: usize = 0;
+    let mut reads: u64 = 0;
+    let key = items::inner::no_key();
+    let mut c = Cursor { list: l, key };
+    let answer = loop {
+        let m = step(base, number, t, h, 157, count, c);
+        let next = m.next;
+        let kind = m.kind;
+        reads += m.reads;
+        match kind {
+            PartKind::Stops(a) => {
+                break a;
+            }
+            PartKind::Lists(p) => {
+                parts[count] = p;
+                count += 1;
+                c = next;
+            }
+        }
+    };
+    Collected {
+        parts,
+        count,
+        answer,
+        reads,
     }
 }

@@ -3,8 +3,8 @@ use mathlib.Core.Path.{sym}
 use native.Mathlib.Omega.{arith}
 use lib.Seq.{length-take-le}
 use borrow.Author.Needs.{needs}
-use Rattle.ask.proofs.write_line.Statement.{statement}
-use Rattle.ask.proofs.write_line.Tie as tie
+use Rattle.words.proofs.write_line.Statement.{statement}
+use Rattle.words.proofs.write_line.Tie as tie
 
 returns : tie.Need-returns
 returns c = search needs

@@ -1,10 +1,10 @@
--- The part that is read into is as long as the record is to be.
+-- The part that is read into is as long as what is to come.
 use mathlib.Core.Path.{sym}
 use native.Mathlib.Omega.{arith}
 use lib.Seq.{length-take-le}
 use borrow.Author.Needs.{needs}
-use Rattle.ask.proofs.read_record.Statement.{statement}
-use Rattle.ask.proofs.read_record.Tie as tie
+use Rattle.words.proofs.read_part.Statement.{statement}
+use Rattle.words.proofs.read_part.Tie as tie
 
 returns : tie.Need-returns
 returns c = search needs
@@ -24,8 +24,8 @@ same-length c = search needs
 returns-2 : tie.Need-returns-2
 returns-2 c = search needs
 
-pub read-record-spec : {M : Type 1} → statement M
-read-record-spec =
+pub read-part-spec : {M : Type 1} → statement M
+read-part-spec =
     tie.close
     (tie.spec
     returns

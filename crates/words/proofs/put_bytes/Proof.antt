@@ -1,28 +1,32 @@
--- The measure is the numbers left; the buffer keeps its length.
+-- The measure is what is left of the bytes; the buffer keeps its length.
 use mathlib.Core.Path.{_≡_}
 use Prim.Native.Nat.{_-_}
-use borrow.Author.Needs.{needs}
+use native.Mathlib.Omega.{arith}
 use lib.ListN.{length}
-use Rattle.ask.proofs.text.put_words.Statement.{statement}
-use Rattle.ask.proofs.text.put_words.Tie as tie
+use borrow.Author.Needs.{needs}
+use Rattle.words.proofs.put_bytes.Statement.{statement}
+use Rattle.words.proofs.put_bytes.Tie as tie
 
 abbrev Inv-loop : tie.InvT-loop
-Inv-loop out₀ at word numbers end₀ i₀ out end i = length out ≡ length out₀
+Inv-loop out₀ at word v end₀ i₀ out end i = length out ≡ length out₀
 
 abbrev μ-loop : tie.MeasureT-loop
-μ-loop out₀ at word numbers end₀ i₀ out end i = length numbers - i
+μ-loop out₀ at word v end₀ i₀ out end i = length v - i
 
-put-text-requires : tie.Need-put-text-requires Inv-loop μ-loop
-put-text-requires c κs = search needs
+slice-aggregate-put-words : tie.Need-slice-aggregate-put-words Inv-loop μ-loop
+slice-aggregate-put-words c = search needs
+
+put-words-requires : tie.Need-put-words-requires Inv-loop μ-loop
+put-words-requires c κs = search needs
 
 loop-holds : tie.Need-loop-holds Inv-loop μ-loop
 loop-holds c = search needs
 
-mul-put-number : tie.Need-mul-put-number Inv-loop μ-loop
-mul-put-number c = search needs
-
 shared-slice-read-put-number : tie.Need-shared-slice-read-put-number Inv-loop μ-loop
 shared-slice-read-put-number c = search needs
+
+cast-put-number : tie.Need-cast-put-number Inv-loop μ-loop
+cast-put-number c = omega (arith, c .shared-slice-known3 .given (c .before .before .before .loop .i))
 
 put-number-requires : tie.Need-put-number-requires Inv-loop μ-loop
 put-number-requires c κs = search needs
@@ -42,16 +46,17 @@ same-length c = search needs
 returns : tie.Need-returns Inv-loop μ-loop
 returns c = search needs
 
-pub put-words-spec : {M : Type 1} → statement M
-put-words-spec =
+pub put-bytes-spec : {M : Type 1} → statement M
+put-bytes-spec =
     tie.close
     (tie.spec
     Inv-loop
     μ-loop
-    put-text-requires
+    slice-aggregate-put-words
+    put-words-requires
     loop-holds
-    mul-put-number
     shared-slice-read-put-number
+    cast-put-number
     put-number-requires
     add-i
     loop-less

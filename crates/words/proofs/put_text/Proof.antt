@@ -3,8 +3,8 @@ use mathlib.Core.Path.{_≡_}
 use Prim.Native.Nat.{_-_}
 use borrow.Author.Needs.{needs}
 use lib.ListN.{length}
-use Rattle.ask.proofs.text.put_text.Statement.{statement}
-use Rattle.ask.proofs.text.put_text.Tie as tie
+use Rattle.words.proofs.put_text.Statement.{statement}
+use Rattle.words.proofs.put_text.Tie as tie
 
 abbrev Inv-loop : tie.InvT-loop
 Inv-loop out₀ at s end₀ i₀ out end i = length out ≡ length out₀
