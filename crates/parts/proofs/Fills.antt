@@ -79,7 +79,7 @@ module _ (s : List ℕ) (n : RecordNumber) (look : RecordNumber → Option (List
   turned f g k c ih (stops a r) e h h′ = refl
   turned f g k c ih (lists p d r) e h h′ =
       let w = goes k c d p r e .less in
-      ap (λ (l : Listing). listing (p ∷ l .parts) (l .answer) (r + l .reads)) (ih d (omega arith) (omega arith))
+      ap (λ (l : Listing). partsAfter (λ _. l) (lists p d r)) (ih d (omega arith) (omega arith))
 
   pub enough : (f g k : ℕ) (c : Cursor) → left c < f → left c < g → partsRun s n look room f k c ≡ partsRun s n look room g k c
   unfolding partsRun
