@@ -1,0 +1,3 @@
+-- What callers of the reader may count on: what its takes answer and where they stand, and that each contract settles its result.
+pub mod Behind
+pub mod Trails

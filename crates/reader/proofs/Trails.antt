@@ -1,0 +1,87 @@
+-- The raw walk taken one answer at a time: each attribute takes at least 16 bytes of the record, so the walk ends, and what stops it is met again at the same place.
+use Prim.Native.Nat.{ℕ, zero, suc, _+_, _-_, _<_}
+use mathlib.Core.Path.{_≡_, refl, sym, ap, _∙_}
+use mathlib.Core.List.{List}
+use native.Mathlib.Nat.{not-suc-le-zero}
+use native.Mathlib.Omega.{arith}
+use lib.ListN.{length}
+use Rattle.fields.specs.Answer.{Answer, gives, ends, refuses}
+use Rattle.fields.specs.Open.{openOf}
+use Rattle.fields.specs.declared.RecordNumber.{RecordNumber}
+use Rattle.fields.specs.declared.Refusal.{Refusal}
+use Rattle.fields.proofs.Answers.{back}
+use Rattle.fields.proofs.Opens.{opened-sized}
+use Rattle.raw.specs.Attribute.{Inside}
+use Rattle.raw.specs.Step.{stepAt, stepOf}
+use Rattle.raw.specs.declared.Attribute.{Attribute}
+use Rattle.raw.proofs.Given.{Given, of-step, inside}
+use Rattle.reader.specs.Take.{placeAfter}
+use Rattle.reader.specs.Trail.{Trail, trail, trailAfter, trailRun, trailFrom, nth, answerFrom}
+
+module _ (s : List ℕ) (n : RecordNumber) where
+  -- an attribute that a step gave stands at its place, is at least 16 long and ends inside the record
+  pub given : (at : ℕ) (h : Attribute) → stepOf s n at ≡ gives h → Given s at h
+  unfolding stepOf
+  given at h e = of-step s n at h (back (openOf s n) (λ _. stepAt s n at) h e .next)
+
+  pub given-inside : (at : ℕ) (h : Attribute) → stepOf s n at ≡ gives h → Inside s h
+  unfolding stepOf
+  given-inside at h e =
+      let t = back (openOf s n) (λ _. stepAt s n at) h e in
+      inside (of-step s n at h (t .next)) (opened-sized s n (t .gave) .most)
+
+  turned : (f g at : ℕ) → ((p : ℕ) → length s - p < f → length s - p < g → trailRun s n f p ≡ trailRun s n g p)
+      → (a : Answer Attribute) → stepOf s n at ≡ a → length s - at < suc f → length s - at < suc g
+      → trailAfter (trailRun s n f) at a ≡ trailAfter (trailRun s n g) at a
+  unfolding trailAfter
+  turned f g at ih ends e h h′ = refl
+  turned f g at ih (refuses r) e h h′ = refl
+  turned f g at ih (gives x) e h h′ =
+      let w = given at x e in
+      let l = w .least in let m = w .most in
+      ap (λ (t : Trail). trailAfter (λ _. t) at (gives x)) (ih (at + x .length) (omega arith) (omega arith))
+
+  -- any two numbers of attributes that suffice give the same walk
+  pub enough : (f g at : ℕ) → length s - at < f → length s - at < g → trailRun s n f at ≡ trailRun s n g at
+  unfolding trailRun
+  enough zero g at h h′ = absurd (not-suc-le-zero h)
+  enough (suc f) zero at h h′ = absurd (not-suc-le-zero h′)
+  enough (suc f) (suc g) at h h′ = turned f g at (enough f g) (stepOf s n at) refl h h′
+
+  -- the answer of a trail by its number
+  abbrev numbered : ℕ → Trail → Answer Attribute
+  numbered k t = nth (t .attributes) (t .stop) k
+
+  first-of : (f : ℕ → Trail) (at : ℕ) (a : Answer Attribute) → numbered 0 (trailAfter f at a) ≡ a
+  unfolding trailAfter nth
+  first-of f at (gives h) = refl
+  first-of f at ends = refl
+  first-of f at (refuses r) = refl
+
+  -- the first answer from a place is that of the step there
+  pub first-is : (at : ℕ) → answerFrom s n at 0 ≡ stepOf s n at
+  unfolding answerFrom trailFrom trailRun
+  first-is at = first-of (trailRun s n (length s - at)) at (stepOf s n at)
+
+  -- at the end and at a refusal the walk stands still: from there on it answers the same, each time
+  pub ended : (at k : ℕ) → stepOf s n at ≡ ends → answerFrom s n at k ≡ ends
+  unfolding answerFrom trailFrom trailRun trailAfter nth
+  ended at k e = ap (λ (a : Answer Attribute). numbered k (trailAfter (trailRun s n (length s - at)) at a)) e
+
+  pub refused : (at k : ℕ) (r : Refusal) → stepOf s n at ≡ refuses r → answerFrom s n at k ≡ refuses r
+  unfolding answerFrom trailFrom trailRun trailAfter nth
+  refused at k r e = ap (λ (a : Answer Attribute). numbered k (trailAfter (trailRun s n (length s - at)) at a)) e
+
+  next-of : (at k : ℕ) (a : Answer Attribute) → stepOf s n at ≡ a → numbered (suc k) (trailAfter (trailRun s n (length s - at)) at a) ≡ answerFrom s n (placeAfter at a) k
+  unfolding trailAfter nth answerFrom trailFrom placeAfter
+  next-of at k (gives h) e =
+      let w = given at h e in
+      let l = w .least in let m = w .most in
+      ap (numbered k) (enough (length s - at) (suc (length s - (at + h .length))) (at + h .length) (omega arith) (omega arith))
+  next-of at k ends e = sym (ended at k e)
+  next-of at k (refuses r) e = sym (refused at k r e)
+
+  -- the answers behind it are those from the place after it
+  pub next-is : (at k : ℕ) → answerFrom s n at (suc k) ≡ answerFrom s n (placeAfter at (stepOf s n at)) k
+  unfolding answerFrom trailFrom trailRun
+  next-is at k = next-of at k (stepOf s n at) refl
