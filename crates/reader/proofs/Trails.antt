@@ -5,6 +5,7 @@ use mathlib.Core.List.{List}
 use native.Mathlib.Nat.{not-suc-le-zero}
 use native.Mathlib.Omega.{arith}
 use lib.ListN.{length}
+use denote.Ref.{RefT, now}
 use Rattle.fields.specs.Answer.{Answer, gives, ends, refuses}
 use Rattle.fields.specs.Open.{openOf}
 use Rattle.fields.specs.declared.RecordNumber.{RecordNumber}
@@ -12,11 +13,13 @@ use Rattle.fields.specs.declared.Refusal.{Refusal}
 use Rattle.fields.proofs.Answers.{back}
 use Rattle.fields.proofs.Opens.{opened-sized}
 use Rattle.raw.specs.Attribute.{Inside}
-use Rattle.raw.specs.Step.{stepAt, stepOf}
+use Rattle.raw.specs.Step.{toldStep, stepAt, stepOf}
 use Rattle.raw.specs.declared.Attribute.{Attribute}
+use Rattle.raw.specs.declared.RawStep.{RawStep}
 use Rattle.raw.proofs.Given.{Given, of-step, inside}
-use Rattle.reader.specs.Take.{placeAfter}
-use Rattle.reader.specs.Trail.{Trail, trail, trailAfter, trailRun, trailFrom, nth, answerFrom}
+use Rattle.reader.specs.Take.{placeAfter, Starts, Takes}
+use Rattle.reader.specs.Trail.{Trail, trail, trailAfter, trailRun, trailFrom, nth, answerFrom, answerOf}
+use Rattle.reader.specs.declared.Reader.{Reader}
 
 module _ (s : List ℕ) (n : RecordNumber) where
   -- an attribute that a step gave stands at its place, is at least 16 long and ends inside the record
@@ -85,3 +88,21 @@ module _ (s : List ℕ) (n : RecordNumber) where
   pub next-is : (at k : ℕ) → answerFrom s n at (suc k) ≡ answerFrom s n (placeAfter at (stepOf s n at)) k
   unfolding answerFrom trailFrom trailRun
   next-is at k = next-of at k (stepOf s n at) refl
+
+-- a reader that was started answers from the first attribute on
+pub started : (s : RefT (List ℕ)) (n : RecordNumber) (r : Reader) → Starts s n r → (k : ℕ) → answerFrom (now (r .bytes)) (r .number) (r .at) k ≡ answerOf (now s) n k
+unfolding answerOf
+started s n r e k =
+    ap (λ (b : RefT (List ℕ)). answerFrom (now b) (r .number) (r .at) k) (e .bytes) ∙ ap (λ (m : RecordNumber). answerFrom (now s) m (r .at) k) (e .number)
+    ∙ ap (λ (p : ℕ). answerFrom (now s) n p k) (e .place)
+
+-- after a take, a reader gives one answer less before the same one
+pub taken-next : (q r : Reader) (x : RawStep) → Takes q x r → (j k : ℕ) → k ≡ suc j → answerFrom (now (r .bytes)) (r .number) (r .at) j ≡ answerFrom (now (q .bytes)) (q .number) (q .at) k
+taken-next q r x e j k l =
+    ap (λ (b : RefT (List ℕ)). answerFrom (now b) (r .number) (r .at) j) (e .bytes) ∙ ap (λ (m : RecordNumber). answerFrom (now (q .bytes)) m (r .at) j) (e .number)
+    ∙ ap (λ (p : ℕ). answerFrom (now (q .bytes)) (q .number) p j) (e .place) ∙ sym (next-is (now (q .bytes)) (q .number) (q .at) j)
+    ∙ ap (answerFrom (now (q .bytes)) (q .number) (q .at)) (sym l)
+
+-- and where none is left before it, a take answers it
+pub taken-now : (q r : Reader) (x : RawStep) → Takes q x r → (k : ℕ) → k ≡ 0 → toldStep x ≡ answerFrom (now (q .bytes)) (q .number) (q .at) k
+taken-now q r x e k l = e .answer ∙ sym (first-is (now (q .bytes)) (q .number) (q .at)) ∙ ap (answerFrom (now (q .bytes)) (q .number) (q .at)) (sym l)
