@@ -2,3 +2,5 @@
 pub mod Behind
 pub mod Lent
 pub mod Trails
+pub mod Takes
+pub mod Settled

@@ -1,7 +1,7 @@
 -- The raw walk taken one answer at a time: each attribute takes at least 16 bytes of the record, so the walk ends, and what stops it is met again at the same place.
 use Prim.Native.Nat.{ℕ, zero, suc, _+_, _-_, _<_}
 use mathlib.Core.Path.{_≡_, refl, sym, ap, _∙_}
-use mathlib.Core.List.{List}
+use mathlib.Core.List.{List, [], _∷_}
 use native.Mathlib.Nat.{not-suc-le-zero}
 use native.Mathlib.Omega.{arith}
 use lib.ListN.{length}
@@ -18,7 +18,7 @@ use Rattle.raw.specs.declared.Attribute.{Attribute}
 use Rattle.raw.specs.declared.RawStep.{RawStep}
 use Rattle.raw.proofs.Given.{Given, of-step, inside}
 use Rattle.reader.specs.Take.{placeAfter, Starts, Takes}
-use Rattle.reader.specs.Trail.{Trail, trail, trailAfter, trailRun, trailFrom, nth, answerFrom, answerOf}
+use Rattle.reader.specs.Trail.{Trail, trail, trailAfter, trailRun, trailFrom, nth, past, answerFrom, placeFrom, answerOf}
 use Rattle.reader.specs.declared.Reader.{Reader}
 
 module _ (s : List ℕ) (n : RecordNumber) where
@@ -66,21 +66,37 @@ module _ (s : List ℕ) (n : RecordNumber) where
   unfolding answerFrom trailFrom trailRun
   first-is at = first-of (trailRun s n (length s - at)) at (stepOf s n at)
 
-  -- at the end and at a refusal the walk stands still: from there on it answers the same, each time
-  pub ended : (at k : ℕ) → stepOf s n at ≡ ends → answerFrom s n at k ≡ ends
-  unfolding answerFrom trailFrom trailRun trailAfter nth
-  ended at k e = ap (λ (a : Answer Attribute). numbered k (trailAfter (trailRun s n (length s - at)) at a)) e
+  -- at the end and at a refusal the walk stands still: from there on it answers the same, at the same place
+  abbrev after : ℕ → Answer Attribute → Trail
+  after at a = trailAfter (trailRun s n (length s - at)) at a
 
-  pub refused : (at k : ℕ) (r : Refusal) → stepOf s n at ≡ refuses r → answerFrom s n at k ≡ refuses r
+  ended : (at k : ℕ) → stepOf s n at ≡ ends → answerFrom s n at k ≡ ends
   unfolding answerFrom trailFrom trailRun trailAfter nth
-  refused at k r e = ap (λ (a : Answer Attribute). numbered k (trailAfter (trailRun s n (length s - at)) at a)) e
+  ended at k e = ap (λ (a : Answer Attribute). numbered k (after at a)) e
 
-  next-of : (at k : ℕ) (a : Answer Attribute) → stepOf s n at ≡ a → numbered (suc k) (trailAfter (trailRun s n (length s - at)) at a) ≡ answerFrom s n (placeAfter at a) k
-  unfolding trailAfter nth answerFrom trailFrom placeAfter
-  next-of at k (gives h) e =
+  refused : (at k : ℕ) (r : Refusal) → stepOf s n at ≡ refuses r → answerFrom s n at k ≡ refuses r
+  unfolding answerFrom trailFrom trailRun trailAfter nth
+  refused at k r e = ap (λ (a : Answer Attribute). numbered k (after at a)) e
+
+  ended-place : (at k : ℕ) → stepOf s n at ≡ ends → placeFrom s n at k ≡ at
+  unfolding placeFrom trailFrom trailRun trailAfter past
+  ended-place at k e = ap (λ (a : Answer Attribute). past (after at a .attributes) at k) e
+
+  refused-place : (at k : ℕ) (r : Refusal) → stepOf s n at ≡ refuses r → placeFrom s n at k ≡ at
+  unfolding placeFrom trailFrom trailRun trailAfter past
+  refused-place at k r e = ap (λ (a : Answer Attribute). past (after at a .attributes) at k) e
+
+  -- behind an attribute the walk is that from its end on
+  behind : (at : ℕ) (h : Attribute) → stepOf s n at ≡ gives h → trailRun s n (length s - at) (at + h .length) ≡ trailFrom s n (at + h .length)
+  unfolding trailFrom
+  behind at h e =
       let w = given at h e in
       let l = w .least in let m = w .most in
-      ap (numbered k) (enough (length s - at) (suc (length s - (at + h .length))) (at + h .length) (omega arith) (omega arith))
+      enough (length s - at) (suc (length s - (at + h .length))) (at + h .length) (omega arith) (omega arith)
+
+  next-of : (at k : ℕ) (a : Answer Attribute) → stepOf s n at ≡ a → numbered (suc k) (after at a) ≡ answerFrom s n (placeAfter at a) k
+  unfolding trailAfter nth answerFrom placeAfter
+  next-of at k (gives h) e = ap (numbered k) (behind at h e)
   next-of at k ends e = sym (ended at k e)
   next-of at k (refuses r) e = sym (refused at k r e)
 
@@ -88,6 +104,39 @@ module _ (s : List ℕ) (n : RecordNumber) where
   pub next-is : (at k : ℕ) → answerFrom s n at (suc k) ≡ answerFrom s n (placeAfter at (stepOf s n at)) k
   unfolding answerFrom trailFrom trailRun
   next-is at k = next-of at k (stepOf s n at) refl
+
+  past-none : (hs : List Attribute) (at : ℕ) → past hs at 0 ≡ at
+  unfolding past
+  past-none [] at = refl
+  past-none (h ∷ hs) at = refl
+
+  -- and so for places
+  pub first-place : (at : ℕ) → placeFrom s n at 0 ≡ at
+  unfolding placeFrom
+  first-place at = past-none (trailFrom s n at .attributes) at
+
+  place-of : (at k : ℕ) (a : Answer Attribute) → stepOf s n at ≡ a → past (after at a .attributes) at (suc k) ≡ placeFrom s n (placeAfter at a) k
+  unfolding trailAfter past placeFrom placeAfter
+  place-of at k (gives h) e = ap (λ (t : Trail). past (t .attributes) (at + h .length) k) (behind at h e)
+  place-of at k ends e = sym (ended-place at k e)
+  place-of at k (refuses r) e = sym (refused-place at k r e)
+
+  next-place : (at k : ℕ) → placeFrom s n at (suc k) ≡ placeFrom s n (placeAfter at (stepOf s n at)) k
+  unfolding placeFrom trailFrom trailRun
+  next-place at k = place-of at k (stepOf s n at) refl
+
+  -- the answer numbered k is that of the step at the place numbered k
+  pub step-there : (k at : ℕ) → answerFrom s n at k ≡ stepOf s n (placeFrom s n at k)
+  step-there zero at = first-is at ∙ ap (stepOf s n) (sym (first-place at))
+  step-there (suc k) at = next-is at k ∙ step-there k (placeAfter at (stepOf s n at)) ∙ ap (stepOf s n) (sym (next-place at k))
+
+  abbrev on : ℕ → ℕ
+  on p = placeAfter p (stepOf s n p)
+
+  -- and the next place is the one after that answer
+  pub place-on : (k at : ℕ) → placeFrom s n at (suc k) ≡ placeAfter (placeFrom s n at k) (stepOf s n (placeFrom s n at k))
+  place-on zero at = next-place at 0 ∙ first-place (on at) ∙ ap on (sym (first-place at))
+  place-on (suc k) at = next-place at (suc k) ∙ place-on k (on at) ∙ ap on (sym (next-place at k))
 
 -- a reader that was started answers from the first attribute on
 pub started : (s : RefT (List ℕ)) (n : RecordNumber) (r : Reader) → Starts s n r → (k : ℕ) → answerFrom (now (r .bytes)) (r .number) (r .at) k ≡ answerOf (now s) n k

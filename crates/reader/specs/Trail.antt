@@ -37,9 +37,21 @@ nth [] a k = a
 nth (h ∷ hs) a zero = gives h
 nth (h ∷ hs) a (suc k) = nth hs a k
 
+-- the place of that answer: behind the attributes before it
+unfoldable pub past : List Attribute → ℕ → ℕ → ℕ
+past [] at k = at
+past (h ∷ hs) at zero = at
+past (h ∷ hs) at (suc k) = past hs (at + h .length) k
+
 unfoldable pub answerFrom : List ℕ → RecordNumber → ℕ → ℕ → Answer Attribute
 answerFrom s n at k = nth (trailFrom s n at .attributes) (trailFrom s n at .stop) k
+
+unfoldable pub placeFrom : List ℕ → RecordNumber → ℕ → ℕ → ℕ
+placeFrom s n at k = past (trailFrom s n at .attributes) at k
 
 -- "It starts at the first attribute offset"
 unfoldable pub answerOf : List ℕ → RecordNumber → ℕ → Answer Attribute
 answerOf s n k = answerFrom s n (firstAttribute s) k
+
+unfoldable pub placeOf : List ℕ → RecordNumber → ℕ → ℕ
+placeOf s n k = placeFrom s n (firstAttribute s) k
