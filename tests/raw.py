@@ -1,4 +1,4 @@
-"""Holds the layers `fields` and `raw`, as built, to the second reading of document 01 (reading.py).
+"""Holds the layers `fields`, `raw` and `reader`, as built, to the second reading of document 01 (reading.py).
 
 Every question goes to the program `ask` and every line that it writes is compared. Fails at any difference.
 `python3 tests/raw.py sample` writes the files stdin and stdout of the crate ask.
@@ -16,16 +16,18 @@ from asking import LAST, ROOT, Asker, of, said, said_bytes
 # The kinds, by the call that answers.
 (
     HEADER, STEP, NAME, FULL, VALUE, NAME_VIEW, VALUE_VIEW, ATTRIBUTE, FIND, OPENING_IN, KNOWN_TYPE, FLAGS, WALK, LIST,
-) = KINDS = range(14)
+    MOVED, TAKEN,
+) = KINDS = range(16)
 CALLS = (
     "fields::header", "raw::step", "raw::name", "raw::full", "raw::value", "raw::name_view", "raw::value_view",
     "raw::attribute_at", "raw::inner::find", "fields::opening_in", "fields::known_type", "fields::attribute_flags",
     "raw::step, from the first attribute on", "raw::inner::list_of, behind raw::attribute_at",
+    "reader::step", "reader::taken",
 )
 
 SEED = 20240311
 DAMAGED = 100_000
-ON_AN_ATTRIBUTE = (STEP, ATTRIBUTE, NAME, NAME_VIEW, FULL, VALUE, VALUE_VIEW, LIST)
+ON_AN_ATTRIBUTE = (STEP, ATTRIBUTE, NAME, NAME_VIEW, FULL, VALUE, VALUE_VIEW, LIST, MOVED)
 
 
 class Question(NamedTuple):
@@ -88,6 +90,14 @@ def expected(q):
         return "is %d" % (q.ty in reading.KNOWN)
     if q.kind == FLAGS:
         return "flags %d" % (q.instance & reading.ATTRIBUTE_FLAGS)
+    if q.kind == MOVED:
+        answer = of(reading.step, *at_place)
+        behind = q.place + answer.length if isinstance(answer, reading.Attribute) else q.place
+        return "moved %d %s" % (behind, told(answer))
+    if q.kind == TAKEN:
+        # the place is the number of the take; the end, and a refusal, is answered again and again
+        answers = list(reading.walk(q.record, q.number))
+        return told(answers[min(q.place, len(answers) - 1)])
     assert q.kind == WALK
     return "\n".join(told(a) for a in reading.walk(q.record, q.number))
 
@@ -141,12 +151,23 @@ class Test(Asker):
     def goes_on(self, q, line):
         return q.kind == WALK and line.startswith("attribute")
 
+    def refused(self, q, refusal):
+        """The reader's refusals are counted apart."""
+        return "%s %2d" % ("reader" if q.kind == TAKEN else "number", refusal[0])
+
     def put(self, kind, record_=b"", **more):
         self.put_question(Question(kind, record=record_, **more))
 
     def put_all(self, record_, place, kinds=ON_AN_ATTRIBUTE, **more):
         for kind in kinds:
             self.put(kind, record_, place=place, **more)
+
+    def put_walk(self, record_, **more):
+        """The raw walk, and the reader's takes up to three behind the answer that stops the walk."""
+        self.put(WALK, record_, **more)
+        stop = len(list(reading.walk(record_, Question(WALK, **more).number)))
+        for k in range(stop + 3):
+            self.put(TAKEN, record_, place=k, **more)
 
     def put_literal(self, answer, kind, record_=b"", **more):
         self.put_literal_question(answer, Question(kind, record=record_, **more))
@@ -159,6 +180,11 @@ class Test(Asker):
         r = record(128, 56, [(56, resident(16, 32, 8)), (88, resident(128, 24, 0, instance=1)), (112, END)])
         self.put_literal(
             "attribute 56 16 32 1 0 0 0 0\nattribute 88 128 24 1 0 0 0 1\nend", WALK, r)
+        for k, answer in enumerate(("attribute 56 16 32 1 0 0 0 0", "attribute 88 128 24 1 0 0 0 1", "end", "end")):
+            self.put_literal(answer, TAKEN, r, place=k)
+        self.put_literal("end", TAKEN, r, place=100_000)
+        self.put_literal("moved 88 attribute 56 16 32 1 0 0 0 0", MOVED, r, place=56)
+        self.put_literal("moved 112 end", MOVED, r, place=112)
         self.put_literal("header 5 2 56 1 116 128", HEADER, r)
         self.put_literal("span 0 0", NAME, r, place=56)
         self.put_literal("value resident 80 8", VALUE, r, place=56)
@@ -170,7 +196,10 @@ class Test(Asker):
     def both_sides(self):
         # "length 16 accepted, 15 gives 4. 16 bytes left with length 17 gives 5."
         for length, answer in ((16, "attribute 48 16 16 1 0 0 0 0"), (15, "refused 4 40 48"), (17, "refused 5 40 48")):
-            self.put_literal(answer, STEP, record(64, 48, [(48, head(16, length))]), place=48)
+            r = record(64, 48, [(48, head(16, length))])
+            self.put_literal(answer, STEP, r, place=48)
+            self.put_literal(answer, TAKEN, r, place=0)
+            self.put_literal("moved %d %s" % (64 if length == 16 else 48, answer), MOVED, r, place=48)
         # "4 bytes left holding type 16 gives 3; 3 bytes left: end."
         last = record(64, 60, [(60, struct.pack("<I", 16))])
         self.put_literal("refused 3 40 60", STEP, last, place=60)
@@ -199,8 +228,8 @@ class Test(Asker):
             for magic in (b"FILE", b"FILF", b"\0ILE", b"BAAD"):
                 for first, at in ((0, 0), (16, 16), (24, 24), (48, 48), (56, 56), (4064, 4064), (4090, 4090)):
                     r = record(length, first, [(at, resident(16, 24, 0)), (at + 24, END)], magic)
-                    for kind in (HEADER, WALK):
-                        self.put(kind, r)
+                    self.put(HEADER, r)
+                    self.put_walk(r)
                     self.put_all(r, at, number=LAST - first)
                     for ty, instance in ((16, 0), (16, 1), (32, 0)):
                         self.put(FIND, r, number=LAST - first, place=length, ty=ty, instance=instance)
@@ -215,7 +244,7 @@ class Test(Asker):
                     a = bytearray((resident if form == 0 else non_resident)(128, length, 0, instance=3))
                     a[8] = form
                     r = record(whole, first, [(first, bytes(a))])
-                    self.put(WALK, r)
+                    self.put_walk(r)
                     self.put_all(r, first)
                     for instance in (3, 4):
                         self.put(FIND, r, ty=128, instance=instance, place=length)
@@ -272,7 +301,7 @@ class Test(Asker):
         # the first attribute offset, which is read from the record
         for first in (*range(140), *range(250, 260), 4096, 65535):
             r = record(128, first, [(56, resident(16, 32, 8)), (88, resident(128, 24, 0)), (112, END)])
-            self.put(WALK, r)
+            self.put_walk(r)
             self.put(FIND, r, ty=128, instance=0, place=first)
 
     def types(self):
@@ -282,7 +311,7 @@ class Test(Asker):
             self.put(KNOWN_TYPE, ty=ty)
         for ty in (*range(0x120), *around, *far):
             r = record(128, 56, [(56, resident(ty, 24, 0)), (80, resident(64, 24, 0, instance=2)), (104, END)])
-            self.put(WALK, r)
+            self.put_walk(r)
             self.put_all(r, 56, (STEP, ATTRIBUTE, NAME, VALUE))
             for wanted, instance in ((ty, 0), (ty, 1), (64, 2), (64, 3), (reading.MARKER, 0)):
                 self.put(FIND, r, ty=wanted, instance=instance, place=56)
@@ -323,7 +352,7 @@ class Test(Asker):
         full = record(4096, 64, [(at, head(16, 16, instance=at)) for at in range(64, 4096, 16)])
         self.put_literal("found 252 refused 18 41 9", FIND, full, ty=16, instance=1, place=9)
         self.put_literal("found 252 attribute 4080 16 16 1 0 0 0 4080", FIND, full, ty=16, instance=4080)
-        self.put(WALK, full)
+        self.put_walk(full)
 
     # Damaged and random records.
 
@@ -331,6 +360,7 @@ class Test(Asker):
         """One record: its walk, and calls at a place that the walk comes to, or near one, or anywhere."""
         self.put(WALK, r, number=number)
         found = [a for a in reading.walk(r, number) if isinstance(a, reading.Attribute)]
+        self.put(TAKEN, r, number=number, place=chance.randrange(len(found) + 3))
         place = chance.choice(found).offset if found else chance.randrange(160)
         if chance.random() < 0.2:
             place = max(0, place + chance.randrange(-40, 41))
@@ -385,7 +415,7 @@ class Test(Asker):
         assert len(records) >= 20
         for number, r in records:
             self.put(HEADER, r, number=number)
-            self.put(WALK, r, number=number)
+            self.put_walk(r, number=number)
             for a in reading.walk(r, number):
                 if a:
                     self.put_all(r, a.offset, number=number)
@@ -402,9 +432,10 @@ class Test(Asker):
 
 
 def sample():
-    """One question of each kind about the document's whole case. The program's files stdin and stdout have them."""
+    """Questions of each kind about the document's whole case. The program's files stdin and stdout have them."""
     r = record(128, 56, [(56, resident(16, 32, 8)), (88, resident(128, 24, 0, instance=1)), (112, END)])
-    return [Question(kind, place=56, ty=128, instance=1, record=r) for kind in (*KINDS, WALK, STEP)]
+    asked = [Question(kind, place=56, ty=128, instance=1, record=r) for kind in (*KINDS, WALK, STEP)]
+    return asked + [Question(TAKEN, place=1, record=r)]
 
 
 def main():
@@ -429,7 +460,7 @@ def main():
     test.flags()
     test.finds()
     test.volumes(random.Random(SEED))
-    test.finish({1, 2, 3, 4, 5, 6, 7, 8, 9, 10, 11, 12, 13, 18})
+    test.finish(["number %2d" % n for n in (*range(1, 14), 18)] + ["reader %2d" % n for n in range(1, 6)])
 
 
 if __name__ == "__main__":

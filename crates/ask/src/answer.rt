@@ -9,6 +9,7 @@ use raw::RawStep;
 use raw::Span;
 use raw::Spanned;
 use raw::Valued;
+use reader::Moved;
 use words::put_bytes;
 use words::put_number;
 use words::put_refused;
@@ -96,6 +97,13 @@ pub fn put_found(out: &mut [u8], f: Found) -> usize {
     let end = put_text(out, end, b" ");
     let a = f.answer;
     put_checked(out, end, a)
+}
+
+pub fn put_moved(out: &mut [u8], m: Moved) -> usize {
+    let end = put_words(out, 0, b"moved", &[m.at as u64]);
+    let end = put_text(out, end, b" ");
+    let a = m.answer;
+    put_step(out, end, a)
 }
 
 pub fn put_spanned(out: &mut [u8], p: Spanned) -> usize {

@@ -1,4 +1,4 @@
-// Asks the layers `fields` and `raw`: reads questions from standard input and writes the answer to each on a line, for tests that compare the answers with a second reading of the rules.
+// Asks the layers `fields`, `raw` and `reader`: reads questions from standard input and writes the answer to each on a line, for tests that compare the answers with a second reading of the rules.
 // A question is kind u8, record number u64, place u64, type u32, instance u16, length u16, all little-endian, then as many bytes of a record as the length says.
 // The program ends where the questions end, and at a question that is cut.
 mod answer;
@@ -51,6 +51,8 @@ fn put_answer(out: &mut [u8], s: &[u8], q: Question) -> usize {
         11 => answer::put_flags(out, fields::attribute_flags(q.instance)),
         12 => put_walk(out, s, number),
         13 => put_list(out, s, number, place),
+        14 => answer::put_moved(out, reader::step(s, number, place)),
+        15 => answer::put_step(out, 0, reader::taken(s, number, place)),
         _ => 0,
     }
 }
