@@ -1,6 +1,6 @@
 -- Two results that both meet a contract of this crate are equal, and so are the readers left: every field is told.
 use Prim.Native.Nat.{ℕ}
-use mathlib.Core.Path.{_≡_, refl, sym, ap, _∙_}
+use mathlib.Core.Path.{_≡_, sym, ap, _∙_}
 use mathlib.Core.List.{List}
 use denote.Ref.{RefT}
 use Rattle.fields.specs.Answer.{Answer}
@@ -28,7 +28,8 @@ moved-settled {s} {n} {at} {m} {t} p q =
 made : RefT (List ℕ) → RecordNumber → ℕ → Reader
 made b n p = record { bytes = b; number = n; at = p }
 
-same : (r t : Reader) → r .bytes ≡ t .bytes → r .number ≡ t .number → r .at ≡ t .at → r ≡ t
+-- readers with the same fields are the same
+pub same : (r t : Reader) → r .bytes ≡ t .bytes → r .number ≡ t .number → r .at ≡ t .at → r ≡ t
 unfolding made
 same r t a b c =
     let e : made (r .bytes) (r .number) (r .at) ≡ made (t .bytes) (t .number) (t .at) =

@@ -1,6 +1,6 @@
 -- A reader's takes are the raw walk: n of them, from its start on, answer the walk's first n answers and stand at its places. By induction, a take at a time.
 use Prim.Native.Nat.{ℕ, zero, suc, _+_, _<_, _≤_}
-use mathlib.Core.Path.{_≡_, refl, sym, ap, _∙_}
+use mathlib.Core.Path.{_≡_, refl, sym, ap, _∙_, subst}
 use mathlib.Core.List.{List}
 use native.Mathlib.Omega.{arith}
 use lib.ListN.{length}
@@ -12,9 +12,11 @@ use Rattle.raw.specs.Attribute.{Inside}
 use Rattle.raw.specs.Step.{toldStep, stepOf}
 use Rattle.raw.specs.declared.Attribute.{Attribute}
 use Rattle.raw.specs.declared.RawStep.{RawStep}
+use Rattle.raw.specs.declared.RawStep.the-variants as raw
 use Rattle.reader.specs.Take.{placeAfter, Starts, Takes}
 use Rattle.reader.specs.Trail.{answerOf, placeOf}
 use Rattle.reader.specs.declared.Reader.{Reader}
+use Rattle.reader.proofs.Settled.{same, took-settled}
 use Rattle.reader.proofs.Trails.{given, given-inside, first-place, step-there, place-on}
 
 module _ (s : List ℕ) (n : RecordNumber) where
@@ -68,6 +70,19 @@ module _ (s : List ℕ) (n : RecordNumber) where
   pub refused : (k : ℕ) (r : Refusal) → answerOf s n k ≡ refuses r → (j : ℕ) → Still k (refuses r) j
   unfolding placeAfter
   refused k r e j = still k (refuses r) (λ p. refl) e j
+
+-- at the end and at a refusal a take leaves the reader, at any place, as it is, so every further one answers the same
+module _ (q r : Reader) where
+  pub at-end : Takes q raw.End r → r ≡ q
+  unfolding placeAfter
+  at-end e = same r q (e .bytes) (e .number) (e .place ∙ ap (placeAfter (q .at)) (sym (e .answer)))
+
+  pub at-refusal : (f : Refusal) → Takes q (raw.Refused f) r → r ≡ q
+  unfolding placeAfter
+  at-refusal f e = same r q (e .bytes) (e .number) (e .place ∙ ap (placeAfter (q .at)) (sym (e .answer)))
+
+  pub again : (x y : RawStep) (t : Reader) → Takes q x r → r ≡ q → Takes r y t → (y ≡ x) × (t ≡ r)
+  again x y t e g f = took-settled (subst (λ (z : Reader). Takes z y t) g f) e
 
 -- m takes one after another, from a reader that was started: the k-th turns the reader q k into q (suc k) and answers x k
 module _ (s : RefT (List ℕ)) (n : RecordNumber) (q : ℕ → Reader) (x : ℕ → RawStep) (m : ℕ) (begun : Starts s n (q 0)) (next : (k : ℕ) → k < m → Takes (q k) (x k) (q (suc k))) where

@@ -18,7 +18,7 @@ use Rattle.raw.specs.declared.Attribute.{Attribute}
 use Rattle.raw.specs.declared.RawStep.{RawStep}
 use Rattle.raw.proofs.Given.{Given, of-step, inside}
 use Rattle.reader.specs.Take.{placeAfter, Starts, Takes}
-use Rattle.reader.specs.Trail.{Trail, trail, trailAfter, trailRun, trailFrom, nth, past, answerFrom, placeFrom, answerOf}
+use Rattle.reader.specs.Trail.{Trail, trailAfter, trailRun, trailFrom, nth, past, answerFrom, placeFrom, answerOf}
 use Rattle.reader.specs.declared.Reader.{Reader}
 
 module _ (s : List ℕ) (n : RecordNumber) where
@@ -51,7 +51,7 @@ module _ (s : List ℕ) (n : RecordNumber) where
   enough (suc f) zero at h h′ = absurd (not-suc-le-zero h′)
   enough (suc f) (suc g) at h h′ = turned f g at (enough f g) (stepOf s n at) refl h h′
 
-  -- the answer of a trail by its number
+  -- an answer of a walk by its number
   abbrev numbered : ℕ → Trail → Answer Attribute
   numbered k t = nth (t .attributes) (t .stop) k
 
@@ -66,10 +66,11 @@ module _ (s : List ℕ) (n : RecordNumber) where
   unfolding answerFrom trailFrom trailRun
   first-is at = first-of (trailRun s n (length s - at)) at (stepOf s n at)
 
-  -- at the end and at a refusal the walk stands still: from there on it answers the same, at the same place
+  -- the walk from a place where a step answers a
   abbrev after : ℕ → Answer Attribute → Trail
   after at a = trailAfter (trailRun s n (length s - at)) at a
 
+  -- at the end and at a refusal the walk stands still: from there on it answers the same, at the same place
   ended : (at k : ℕ) → stepOf s n at ≡ ends → answerFrom s n at k ≡ ends
   unfolding answerFrom trailFrom trailRun trailAfter nth
   ended at k e = ap (λ (a : Answer Attribute). numbered k (after at a)) e

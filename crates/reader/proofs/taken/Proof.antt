@@ -1,5 +1,5 @@
 -- A reader is started in a local and lent to `take` once for each turn of the loop, and once more for the answer. What the loop keeps: the answer asked for is the one that the reader, where it stands, gives after as many takes as are left.
-use mathlib.Core.Path.{_≡_, refl, sym, _∙_, ap, subst}
+use mathlib.Core.Path.{_≡_, refl, _∙_, ap, subst}
 use mathlib.Core.Bool.{Bool, true, false}
 use mathlib.Core.WellFounded.{WellFounded, InvImage·wf}
 use Prim.Native.Nat.{ℕ, suc, _<_, _≤_, _^_, _-_}
@@ -52,7 +52,7 @@ use Rattle.raw.specs.declared.Attribute.{Attribute}
 use Rattle.raw.specs.declared.RawStep.{RawStep}
 use Rattle.raw.proofs.RawStep as R
 use Rattle.raw.proofs.RawStep.Laws as R′
-use Rattle.reader.specs.Take.{Starts, Takes}
+use Rattle.reader.specs.Take.{Starts}
 use Rattle.reader.specs.Trail.{answerFrom, answerOf}
 use Rattle.reader.specs.declared.Reader.{Reader}
 use Rattle.reader.proofs.Trails.{started, taken-next, taken-now}
@@ -183,7 +183,7 @@ module _ {M : Type 1} (𝓤 : URA M) (H : Heap 𝓤) (A : Atoms 𝓤) (W : Given
           rewrite ! 4 (λ (t : Bool). ‵ (fat fullShare tyBool l₇ 0 (vbool t))) g refl $ stays ! (load ! (from ! (stop !)) (look ! 4 refl)) $
           assigns ! (addr ! (from ! (stop !))) (from ! (stop !)) (init ! 6 refl (tt, tt)) $
           lends ! tt mem run κ q l₄ (z .h) (λ ν δ.
-          calls-at ! fm (Take 𝓤 H A mem run) known-take (to 𝓤 H A W mem run κ q l₄ (z .h) ν δ) (and-then ! (load ! (from ! (stop !)) (look ! 6 refl)) (no-more !)) (λ w.
+          calls-at ! fm (Take 𝓤 H A mem run) known-take (to 𝓤 H A mem run κ q l₄ (z .h) ν δ) (and-then ! (load ! (from ! (stop !)) (look ! 6 refl)) (no-more !)) (λ w.
           taken-back ! tt mem run κ q l₄ (z .h) ν δ w (λ r h e.
           -- [the answer; the reader; what it owns; the token; left; the test; room for the answer; the reference; …]
           peeks ! R.the-row (Is R.the-row) (shows 𝓤 H A R.the-row) r (w ∷ []) (λ is.
@@ -209,7 +209,7 @@ module _ {M : Type 1} (𝓤 : URA M) (H : Heap 𝓤) (A : Atoms 𝓤) (W : Given
           rewrite ! 4 (λ (t : Bool). ‵ (fat fullShare tyBool l₇ 0 (vbool t))) g refl $ leaves-loop ! (load ! (from ! (stop !)) (look ! 4 refl)) $ exec ! C Λ En code.Mir.t-5 (atRet En Post) $
           assigns ! (addr ! (from ! (stop !))) (from ! (stop !)) (init ! 7 refl (tt, tt)) $
           lends ! tt mem run κ q l₄ (z .h) (λ ν δ.
-          calls-at ! fm (Take 𝓤 H A mem run) known-take (to 𝓤 H A W mem run κ q l₄ (z .h) ν δ) (and-then ! (load ! (from ! (stop !)) (look ! 7 refl)) (no-more !)) (λ w.
+          calls-at ! fm (Take 𝓤 H A mem run) known-take (to 𝓤 H A mem run κ q l₄ (z .h) ν δ) (and-then ! (load ! (from ! (stop !)) (look ! 7 refl)) (no-more !)) (λ w.
           taken-back ! tt mem run κ q l₄ (z .h) ν δ w (λ r h e.
           -- [the answer; the reader; what it owns; the token; left; the test; room for an answer; the references; room for the result; …]
           peeks ! R.the-row (Is R.the-row) (shows 𝓤 H A R.the-row) r (w ∷ []) (λ is.
