@@ -1,6 +1,6 @@
 // Asks the layers `fields`, `raw` and `reader`: reads questions from standard input and writes the answer to each on a line, for tests that compare the answers with a second reading of the rules.
 // A question is kind u8, record number u64, place u64, type u32, instance u16, length u16, all little-endian, then as many bytes of a record as the length says.
-// The program ends where the questions end, and at a question that is cut.
+// For what a reader takes, the place is the number of the take. The program ends where the questions end, and at a question that is cut.
 mod answer;
 
 use fields::RecordNumber;
