@@ -475,13 +475,7 @@ class Test(Asker):
 
     def differences_page(self):
         """The inputs of docs/DIFFERENCES.md, our side of them."""
-        def r(size, *parts):
-            text = bytearray(size)
-            text[0:4], text[6], text[20] = b"FILE", 1, 56
-            for at, part in parts:
-                text[at:at + len(part)] = part
-            assert len(text) == size
-            return bytes(text)
+        r = walk_cases.bare
 
         def listed(number):
             return r(112, (56, head(0x20, 56, instance=9) + struct.pack("<IHH", 26, 24, 0) + entry(0x80, number, sequence=0)))

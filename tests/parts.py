@@ -13,7 +13,9 @@ import time
 from typing import NamedTuple
 
 import asking
+import items
 import parts_reading
+import raw
 import reading
 import walk_cases
 import walk_reading
@@ -46,10 +48,11 @@ class Question(NamedTuple):
     on: int = 0
 
 
-def placed(ty, instance, lowest=0, length=64, runs=64, size=4000):
-    """A non-resident attribute with a data size of its own."""
+def placed(ty, instance, lowest=0, length=64, runs=64, size=4000, inside=b""):
+    """A non-resident attribute with a data size of its own, and with these run bytes, as far as they have room."""
     text = non_resident(ty, instance, length, lowest, runs)
-    return text[:48] + struct.pack("<Q", size)[:max(0, length - 48)] + text[56:]
+    text = text[:48] + struct.pack("<Q", size)[:max(0, length - 48)] + text[56:]
+    return (text[:runs] + inside + text[runs + len(inside):])[:len(text)] if runs >= 64 else text
 
 
 class Test(asking.Asker):
@@ -177,32 +180,23 @@ class Test(asking.Asker):
         """20: at the entry that has no room, before its record is looked up."""
         for count in range(1, 9):
             good = [self.GOOD[k % 2] for k in range(count)]
-            for bad in ((), (entry(0x80, 99, 2),), (entry(0x80, 44, 2),), (entry(0x11, 41, 2),), (entry(0x80, 41, 3),)):
-                r, t, rest = self.listed([e for e, _, _ in good] + list(bad))
-                for room in (0, 1, count - 1, count, count + 1, 156, 157):
-                    name = "room 0" if room == 0 else "room one short" if room == count - 1 else "room enough" if room == count else "room"
-                    kept = good[:room]
-                    reads = sum(n for _, _, n in kept)
-                    q = Question(WITHIN, r, t, rest=rest, room=room)
-                    parts = [part for _, part, _ in kept]
-                    if room < count:
-                        self.case(name, q, parts, "refused 20 40 %d" % (80 + 26 * room), reads + 1)
-                    elif not bad:
-                        self.case(name, q, parts, "whole", reads)
-                    elif room == count and bad[0][:4] != b"\x11\0\0\0" and bad[0][24] == 2:
-                        # no room for it: whether its record is there is not asked
-                        self.case("20 before the lookup", q, parts, "refused 20 40 %d" % (80 + 26 * count), reads + 1)
-                    elif bad[0][:4] == b"\x11\0\0\0":
-                        # judged before the room is
-                        self.case("6 before 20", q, parts, "refused 6 40 %d" % (80 + 26 * count), reads + 1)
-                    elif bad[0][24] == 3:
-                        self.case("the end before 20", q, parts, "whole", reads + 1)
-                    elif LENT:
-                        self.put_question(q)
-        # 14 to 16 before 20
-        for last, number in ((entry(0x80, 41, 2)[:25], 14), (entry(0x80, 41, 2, length=25), 15), (entry(0x80, 41, 2, units=1)[:26], 16)):
-            r, t, rest = self.listed([self.GOOD[0][0], last])
-            self.case("%d before 20" % number, Question(WITHIN, r, t, rest=rest, room=1), [self.GOOD[0][1]], "refused %d 40 106" % number, 2)
+            entries, parts, reads = [e for e, _, _ in good], [part for _, part, _ in good], [n for _, _, n in good]
+            r, t, rest = self.listed(entries)
+            for room in (0, 1, count - 1, count, count + 1, 156, 157):
+                name = "room 0" if room == 0 else "room one short" if room == count - 1 else "room enough" if room == count else "room"
+                end, more = ("refused 20 40 %d" % (80 + 26 * room), 1) if room < count else ("whole", 0)
+                self.case(name, Question(WITHIN, r, t, rest=rest, room=room), parts[:room], end, sum(reads[:room]) + more)
+            # an entry behind the last that has room: it is read and judged, and not looked up
+            for name, last, end, more in (
+                ("20 before the lookup", entry(0x80, 99, 2), 20, 1), ("20 before the lookup", entry(0x80, 44, 2), 20, 1),
+                ("6 before 20", entry(0x11, 41, 2), 6, 1), ("the end before 20", entry(0x80, 41, 3), None, 1),
+                ("14 before 20", entry(0x80, 41, 2)[:25], 14, 0), ("15 before 20", entry(0x80, 41, 2, length=25), 15, 0),
+                ("16 before 20", entry(0x80, 41, 2, units=1)[:26], 16, 0),
+            ):
+                r, t, rest = self.listed([*entries, last])
+                end = "refused %d 40 %d" % (end, 80 + 26 * count) if end else "whole"
+                self.case(name, Question(WITHIN, r, t, rest=rest, room=count), parts, end, sum(reads) + more)
+                self.put_both(r, t, rest, rooms=(0, count - 1, count + 1, 157))
 
     def what_ends(self):
         one, part, n = self.GOOD[0]
@@ -370,6 +364,49 @@ class Test(asking.Asker):
             for end in {start, min(start + 26, 512), min(start + 53, 512), 512}:
                 self.put_both(r, t, Rest(True, start, end), number=(40, 41, 2 ** 48)[start % 3], rooms=(start % 3,))
 
+    def differences_page(self):
+        """The inputs of docs/DIFFERENCES.md about parts, our side of them."""
+        def listed(size, *entries):
+            # K of that page: the end marker stands behind the list, where there is room
+            attribute = list_of(*(entry(ty, n, sequence=0) for ty, n in entries))
+            attribute = attribute[:24] + attribute[24:].replace(b"\xAA", b"\0")
+            return walk_cases.bare(size, (56, attribute), *([(56 + len(attribute), END)] if 56 + len(attribute) < size else []))
+
+        def held(size, inside, length=72):
+            text = head(0x80, length, False) + bytes(16) + b"\x40\0" + bytes(30) + inside
+            return walk_cases.bare(size, (56, text), *([(56 + length, END)] if 56 + length < size else []))
+
+        def shown(number, base, others, parts, end, reads):
+            lines = base, table({40: base, **others})
+            count = (int.from_bytes(base[72:76], "little"))
+            self.case("no. %d of the differences" % number, Question(COLLECT, *lines, rest=Rest(True, 80, 80 + count)), parts, end, reads)
+            # the same as a walk finds it, and each table once for the Rust
+            self.put(WALK, *lines, on=9)
+
+        run = b"\x11\1\1"
+        part = Part(41, 56, 0, 120, 8, 0, 0)
+        shown(20, listed(160, (0x80, 41), (0x80, 42), (0x80, 41)), {41: held(160, run)}, [part], "refused 17 40 106", 3)
+        shown(21, listed(160, (0x80, 41), (0x11, 41), (0x80, 41)), {41: held(160, run)}, [part], "refused 6 40 106", 3)
+        shown(22, listed(128, (0x80, 41)), {41: held(128, b"\xBB")}, [part], "whole", 2)
+        shown(23, listed(120, (0x80, 41)), {41: held(120, b"", 64)}, [part._replace(count=0)], "whole", 2)
+        shown(
+            23, listed(160, (0x80, 41), (0x80, 42), (0x80, 41)), {41: held(160, run), 42: held(160, b"", 64)},
+            [part, part._replace(file=42, count=0), part], "whole", 6)
+        short = head(0x80, 16, False)
+        shown(24, listed(112, (0x80, 41)), {41: walk_cases.bare(112, (56, short), (72, END))}, [], "refused 7 41 56", 2)
+        shown(24, listed(112, (0x80, 41)), {41: walk_cases.bare(112, (56, head(0x10, 40)), (96, short))}, [], "refused 7 41 96", 3)
+
+    def by_hand(self):
+        self.every_refusal()
+        self.rooms()
+        self.what_ends()
+        self.vcns()
+        self.base_record()
+        self.most()
+        self.opening()
+        self.forged()
+        self.differences_page()
+
     # Records that others wrote, damaged copies, and random ones.
 
     def probe(self, text, chance):
@@ -435,20 +472,22 @@ class Test(asking.Asker):
 
 # Random tables for parts.
 
+# run bytes: some that decode, none, and some that do not
+INSIDE = (b"\x11\x05\x07", b"\x11\x05\x07", b"\x21\x10\x34\x02", b"\x01\x08", b"\0", b"\xBB")
 VCNS = (0, 0, 1, 5, 16, 2 ** 31, 2 ** 32 + 1, 2 ** 63 - 1, 2 ** 63, LAST)
 
 
 def random_part(chance, ty, instance):
     """An attribute that most often is a part, with runs that end in any byte; else one that refuses."""
-    roll, length = chance.random(), chance.choice((64, 64, 65, 72, 72, 80))
+    roll, length = chance.random(), chance.choice((64, 65, 72, 72, 72, 72, 80, 80))
     if roll < 0.04:
         return resident(ty, instance, chance.choice((24, 32)))
     if roll < 0.07:
         return head(ty, chance.choice((16, 20)), chance.random() < 0.5, instance).ljust(20, b"\xAA")[:20]
     if roll < 0.10:
         length = chance.choice((16, 40, 56, 63))
-    runs = chance.choice((64, 64, 66, length, 0, 33)) if roll < 0.92 else chance.choice((length + 1, 65535))
-    return placed(ty, instance, chance.choice(VCNS), length, runs, chance.choice((0, 0, 1, 4000, 2 ** 40, LAST)))
+    runs = chance.choice((64, 64, 64, 66, length, chance.choice((0, 33)))) if roll < 0.92 else chance.choice((length + 1, 65535))
+    return placed(ty, instance, chance.choice(VCNS), length, runs, chance.choice((0, 0, 1, 4000, 2 ** 40, LAST)), chance.choice(INSIDE))
 
 
 def streams_table(chance):
@@ -494,6 +533,114 @@ def streams_table(chance):
     return table(records)
 
 
+# The Rust's answers, kept. Both sides are told in the words of document 01's listing, without counts and with the places of those
+# refusals whose place the Rust tells.
+
+PLACED = {2, 3, 4, 5, 8, 9, 10, 11, 19}
+
+
+def refused_told(words):
+    """A refusal, from its number, record and place."""
+    return "refused " + " ".join(words[:3] if int(words[0]) in PLACED else words[:1])
+
+
+def value_questions(q, answer):
+    """For the program `ask`: the name and the value of each item of a walk."""
+    files = [line.split(" ")[1:3] for line in answer.split("\n") if line.startswith("item ")]
+    if not files:
+        return []
+    rows = {**walk_reading.table_of(q.table).rows, q.number: q.record}
+    return [raw.Question(kind, int(file), int(at), record=rows[int(file)]) for file, at in files for kind in (raw.NAME, raw.VALUE)]
+
+
+def value_told(value, parts):
+    """An item's value and the lines of its parts: `value` by the program `ask`, `parts` the line of ask_parts."""
+    words = value.split(" ")
+    # the Rust has no check 7: it may say anything of a value whose header is cut
+    if words[:2] == ["refused", "7"]:
+        return "short", []
+    if parts is None:
+        if words[0] == "refused":
+            return refused_told(words[1:]), []
+        return " ".join(words[1:] if words[1] == "resident" else words[1:4] + ["size"] + words[4:]), []
+    head_, _, rest = parts.rpartition(" unchanged ")[0].partition(" part ")
+    lines = [part.split(" ") for part in rest.split(" part ")] if rest else []
+    end = head_.split(" ")[2:6]
+    if end[0] == "whole":
+        end = "size " + lines[0][5]
+    else:
+        end = "short" if end[1] == "7" else refused_told(end[1:])
+    return "parts %d %s" % (len(lines), end), ["part " + " ".join(part[:5]) for part in lines]
+
+
+def listing(answer, told):
+    """The lines of a walk, those of each call together; `told` are the answers to value_questions."""
+    calls, told = [], iter(told)
+    lines = answer.split("\n")
+    for k, line in enumerate(lines):
+        words = line.split(" ")
+        if words[0] == "item":
+            name, value = next(told), next(told)
+            name = refused_told(name.split(" ")[1:]) if name.startswith("refused") else name.split(" ", 1)[1]
+            value, parts = value_told(value, lines[k + 1] if words[8] == "1" else None)
+            calls.append(["attr %s %s name %s value %s" % (" ".join(words[1:5]), words[6], name, value), *parts])
+        elif words[0] in ("refused", "stopped"):
+            calls.append([refused_told(words[1:] if words[0] == "refused" else words[2:])])
+            if len(calls) == 1 and words[-1] == "0" and words[-5] in ("1", "2", "21"):
+                # refused before it began
+                break
+        elif words[0] == "end":
+            calls.append(["end"])
+    return calls
+
+
+def alike(ours, theirs):
+    """The same lines of a call. Where a header is cut (7), only what comes before it is compared."""
+    if not ours[0].endswith(" short"):
+        return ours == theirs
+    before = ours[0].split(" value ")[0]
+    return theirs[0].split(" value ")[0] == before and theirs[1:len(ours)] == ours[1:]
+
+
+def replay(text):
+    """The kept answers against the programs ask_parts and ask: (cases, lines, parts, what differs)."""
+    test, asker, cases = Test(), raw.Test(), items.kept_answers(text)
+    questions = []
+    for on, table_, _, _ in cases:
+        number, r = walk_cases.base_of(table_)
+        questions.append(Question(WALK, r, table_, number, on=on))
+    found, rest = test.answers_in(questions, asking.run(test.PROGRAM, b"".join(map(test.packed, questions))))
+    assert not rest
+    asked = [value_questions(q, answer) for q, answer in zip(questions, found)]
+    told = iter(asking.run(asker.PROGRAM, b"".join(asker.packed(v) for values in asked for v in values)).split("\n"))
+    different, lines = [], 0
+    for q, (_, _, kept, _), answer, values in zip(questions, cases, found, asked):
+        ours = [line for call in listing(answer, [next(told) for _ in values]) for line in call]
+        lines += len(kept)
+        if ours != kept:
+            k = next((k for k, (o, t) in enumerate(zip(ours, kept)) if o != t), min(len(ours), len(kept)))
+            different.append((q, "\n".join(kept[k:k + 1]), "\n".join(ours[k:k + 1])))
+    return len(cases), lines, sum(line.startswith("part ") for _, _, kept, _ in cases for line in kept), different
+
+
+def rust_answers():
+    with open(os.path.join(ROOT, "tests", "rust_parts.txt"), encoding="ascii") as given:
+        text = given.read()
+    cases, lines, parts, different = replay(text)
+    Test().stop_at(different, cases)
+    assert cases >= 100 and parts >= 400
+    # one changed digit of an answer is noticed, at its case alone
+    chance = random.Random(SEED)
+    whole = text.split("\n")
+    for start in ("attr ", "part ", "refused "):
+        for k in chance.sample([k for k, line in enumerate(whole) if line.startswith(start)], 4):
+            line = whole[k]
+            at = chance.choice([i for i, c in enumerate(line) if c.isdigit()])
+            changed = whole[:k] + [line[:at] + chr(ord(line[at]) ^ 1) + line[at + 1:]] + whole[k + 1:]
+            assert len(replay("\n".join(changed))[3]) == 1, (line, changed[k])
+    print("the Rust's answers to %d tables, %d lines, %d parts among them, replayed" % (cases, lines, parts))
+
+
 # Tests of the test.
 
 def sample(test):
@@ -531,7 +678,7 @@ CLASSES = (
     "unknown type of the same instance", "unknown type of the same instance, for the base record",
     "an entry that is longer than the list ends", "no first entry", "the list ends", "flag false", "from = to", "22 at the opening, from > to",
     "22 at the opening, past the record", "21 at the opening", "1 at the opening", "2 at the opening", "inside another attribute",
-    "at the record's end", "under 26 bytes", "parts of a real volume",
+    "at the record's end", "under 26 bytes", "parts of a real volume", *("no. %d of the differences" % number for number in range(20, 25)),
     *("%d in the %s part" % (number, part) for number in REFUSALS if number != 20 for part in ("first", "later")),
 ) + ((
     "room 0", "room enough", "room one short", "20 before the lookup", "6 before 20", "14 before 20", "15 before 20", "16 before 20",
@@ -568,15 +715,9 @@ def main():
     test.samples(sample(test), "tests/parts.py")
     test.notices(sample(test))
     cut_questions(test)
+    rust_answers()
     print("parts: seed %d, %d damaged, %d random, %d of streams, %d chained and %d large tables" % (SEED, DAMAGED, RANDOM, STREAMS, CHAINED, LARGE))
-    test.every_refusal()
-    test.rooms()
-    test.what_ends()
-    test.vcns()
-    test.base_record()
-    test.most()
-    test.opening()
-    test.forged()
+    test.by_hand()
     test.volumes(random.Random(SEED))
     finish(test)
     print("%.0f seconds" % (time.time() - started))

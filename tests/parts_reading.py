@@ -113,12 +113,19 @@ def parts_of(record, number, table, rest, room=ROOM):
 
 def walk(record, number, table, on):
     """The walk from fresh on, through `on` refusals: (item, None for the end, or the refusal; the call's reads; for an item
-    what its parts call answers) of each call, "asked for once an item". At a refusal more, the walk stops."""
+    what its parts call answers) of each call. At a refusal more, the walk stops."""
     state = walk_reading.fresh(record)
+    try:
+        t = walk_reading.opened(record, number, table)
+    except Refusal as refusal:
+        # every later call refuses too
+        for _ in range(on + 1):
+            yield refusal, 0, None
+        return
     while True:
-        answer, state, reads = walk_reading.next_item(record, number, table, state)
+        answer, state, reads = walk_reading.next_in(record, number, t.rows, state)
         given = isinstance(answer, walk_reading.Item)
-        yield answer, reads, parts_of(record, number, table, answer.rest) if given else None
+        yield answer, reads, parts_in(record, number, t.rows, answer.rest) if given else None
         if answer is None or not given and on == 0:
             return
         on -= not given

@@ -55,6 +55,16 @@ def record(size, *attributes, first=FIRST, magic=b"FILE", used=None, end=END):
     return bytes(text[:size])
 
 
+def bare(size, *parts):
+    """R(size) of docs/DIFFERENCES.md, with these bytes at these offsets."""
+    text = bytearray(size)
+    text[0:4], text[6], text[20] = b"FILE", 1, FIRST
+    for at, part in parts:
+        text[at:at + len(part)] = part
+    assert len(text) == size
+    return bytes(text)
+
+
 def table(records, base=40, gap=0):
     """A table of these records, by number."""
     rows = sorted(records)
