@@ -629,6 +629,9 @@ def rust_answers():
     cases, lines, parts, different = replay(text)
     Test().stop_at(different, cases)
     assert cases >= 100 and parts >= 400
+    # each way in which parts can end where a walk asks for them; 7 is not the Rust's
+    ways = {int(line.split(" refused ")[-1].split(" ")[0]) for line in text.split("\n") if " value parts " in line and " refused " in line.split(" value ")[1]}
+    assert ways == set(REFUSALS) - {7, 20}, ways
     # one changed digit of an answer is noticed, at its case alone
     chance = random.Random(SEED)
     whole = text.split("\n")
