@@ -1,0 +1,2 @@
+-- What the walk of the loop leans on.
+pub mod Kept
