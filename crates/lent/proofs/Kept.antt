@@ -18,7 +18,7 @@ use Rattle.parts.specs.Parts.{toldEnded, Stepped, lists, stops, cursor, Listing
 use Rattle.parts.specs.declared.Part.{Part}
 use Rattle.parts.specs.declared.Cursor.{Cursor}
 use Rattle.parts.proofs.Fills.{left, goes, Filling, begun, stopped, filled-so, more}
-use Rattle.lent.specs.Lent.{Fills, toldStanding, counted, Stands, Empty, Begins, listed, unlisted}
+use Rattle.lent.specs.Lent.{Fills, toldStanding, counted, Stands, Onward, Empty, Begins, listed, unlisted}
 use Rattle.lent.specs.declared.Standing.{Standing}
 
 untrue : false ≡ true → ⊥
@@ -117,10 +117,10 @@ module _ (s : List ℕ) (n : RecordNumber) (t : List ℕ) (l : Rest) (ys : List 
 
   module _ (k : ℕ) (w : Standing) (zs : List Part) (g : Going k w zs) where
     -- the step behind the part may be made
-    pub asks : (Ready s t (w .h)) × (((w .at .list .from ≤ w .at .list .to) × (w .at .list .to ≤ length s)) × ((w .told .count < length ys) × (w .told .reads ≤ 1052672)))
-    asks = let f = g .filling in
+    pub onward : Onward s t (length ys) w
+    onward = let f = g .filling in
         let i = g .inside in let e = f .same in let u = f .few in let m = g .ready .small in
-        (g .ready, ((f .order, omega arith), (g .fits, omega arith)))
+        record { ready = g .ready; order = f .order; inside = omega arith; fits = g .fits; few = omega arith }
 
     -- and a turn keeps it, with less left
     pub kept-next : (v : Standing) → Stands (w .h) (w .told .count + 1) (w .told .reads) (stepIn s n (recordOf t) (length ys) (w .told .count + 1) (w .at)) v

@@ -1,5 +1,5 @@
 -- 01, "Parts": "Parts go, in list order, to a lent list of part records, filled from the front; records past the reported number are unchanged."
-use Prim.Native.Nat.{ℕ, _+_, _≤_}
+use Prim.Native.Nat.{ℕ, _+_, _≤_, _<_}
 use mathlib.Core.Path.{_≡_}
 use mathlib.Core.List.{List, []}
 use mathlib.Core.Bool.{false}
@@ -41,6 +41,14 @@ pub record Stands (h : Numbers) (k before : ℕ) (x : Stepped) (w : Standing) : 
   pub count : w .told .count ≡ k
   pub step : toldStanding w ≡ counted before x
   pub few : w .told .reads ≤ before + 257
+
+-- what the loop has shown where it asks for the step behind a part: no step reads more than 257, and none of 4,096 bytes is read twice
+pub record Onward (s t : List ℕ) (room : ℕ) (w : Standing) : Type 0 where
+  pub ready : Ready s t (w .h)
+  pub order : w .at .list .from ≤ w .at .list .to
+  pub inside : w .at .list .to ≤ length s
+  pub fits : w .told .count < room
+  pub few : w .told .reads ≤ 1052672
 
 -- ended before the first part
 pub record Empty (a : Answer Unit) (w : Standing) : Type 0 where

@@ -9,12 +9,12 @@ use parts::PartKind;
 use parts::PartTurn;
 use table::Numbers;
 use table::Tested;
-ghost use Prim.Native.Nat.{_+_, _≤_, _<_};
+ghost use Prim.Native.Nat.{_+_, _≤_};
 ghost use lib.ListN.{length};
 ghost use Rattle.table.specs.Held.{recordOf};
 ghost use Rattle.items.specs.State.{Ready, noKey};
 ghost use Rattle.parts.specs.Parts.{toldEnded, toldTurn, cursor, stepIn, partsOf};
-ghost use Rattle.lent.specs.Lent.{Fills, Stands, Begins, Empty};
+ghost use Rattle.lent.specs.Lent.{Fills, Stands, Onward, Empty, Begins};
 
 // What is reported: how many parts were written, how they end, and what was read.
 pub struct Filled {
@@ -152,9 +152,7 @@ fn next<'a>(
     room: usize,
     w: Standing,
 ) -> Standing
-    requires { ⌜ Ready (now base) (now t) (w .h) ⌝ }
-    requires { ⌜ (w .at .list .from ≤ w .at .list .to) × (w .at .list .to ≤ length (now base)) ⌝ }
-    requires { ⌜ (w .told .count < room) × (w .told .reads ≤ 1052672) ⌝ }
+    requires { ⌜ Onward (now base) (now t) room w ⌝ }
     ensures { λ r. ⌜ Stands (w .h) (w .told .count + 1) (w .told .reads) (stepIn (now (base .entry)) number (recordOf (now (t .entry))) room (w .told .count + 1) (w .at)) r ⌝ }
 {
     let count = w.told.count + 1;
