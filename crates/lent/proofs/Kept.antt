@@ -84,22 +84,22 @@ module _ (s : List ℕ) (n : RecordNumber) (t : List ℕ) (l : Rest) (ys : List 
     stood w x = record {
       len = f .size;
       going = λ g.
-        let y = counted-listed before _ (sym (stands-listed w g) ∙ x .step) in
-        let z = goes s n (recordOf t) (length ys) k c (w .at) (w .part) (y .0) (y .1 .0) in
-        let m = more s n (recordOf t) (length ys) l ys zs k before c f (w .part) (w .at) (y .0) (y .1 .0) (omega (arith, x .few, y .1 .1)) (omega arith) in
-        record {
-          filling = subst (λ (j : ℕ). Filling s n (recordOf t) (length ys) l ys (set zs j (w .part)) (j + 1) (w .told .reads) (w .at)) (sym (x .count))
-              (subst (λ (r : ℕ). Filling s n (recordOf t) (length ys) l ys (set zs k (w .part)) (k + 1) r (w .at)) (y .1 .1) m);
-          fits = subst (λ (j : ℕ). j < length ys) (sym (x .count)) (z .fits);
-          less = z .less;
-          ready = subst (Ready s t) (sym (x .head)) ready;
-          inside = inside;
-          same = same;
-        };
+          let y = counted-listed before _ (sym (stands-listed w g) ∙ x .step) in
+          let z = goes s n (recordOf t) (length ys) k c (w .at) (w .part) (y .0) (y .1 .0) in
+          let m = more s n (recordOf t) (length ys) l ys zs k before c f (w .part) (w .at) (y .0) (y .1 .0) (omega (arith, x .few, y .1 .1)) (omega arith) in
+          record {
+            filling = subst (λ (j : ℕ). Filling s n (recordOf t) (length ys) l ys (set zs j (w .part)) (j + 1) (w .told .reads) (w .at)) (sym (x .count))
+                (subst (λ (r : ℕ). Filling s n (recordOf t) (length ys) l ys (set zs k (w .part)) (k + 1) r (w .at)) (y .1 .1) m);
+            fits = subst (λ (j : ℕ). j < length ys) (sym (x .count)) (z .fits);
+            less = z .less;
+            ready = subst (Ready s t) (sym (x .head)) ready;
+            inside = inside;
+            same = same;
+          };
       ended = λ g.
-        let y = counted-stopped before _ (sym (stands-stopped w g) ∙ x .step) in
-        let p = stopped s n (recordOf t) (length ys) l ys zs k before c f (toldEnded (w .told .answer)) (y .0) (y .1 .0) in
-        reported w (sym p ∙ same) (filled-so s n (recordOf t) (length ys) l ys zs k before c f) (omega (arith, f .size, f .most)) (x .count) (sym (y .1 .1));
+          let y = counted-stopped before _ (sym (stands-stopped w g) ∙ x .step) in
+          let p = stopped s n (recordOf t) (length ys) l ys zs k before c f (toldEnded (w .told .answer)) (y .0) (y .1 .0) in
+          reported w (sym p ∙ same) (filled-so s n (recordOf t) (length ys) l ys zs k before c f) (omega (arith, f .size, f .most)) (x .count) (sym (y .1 .1));
     }
 
   none-written : (w : Standing) {a : Answer Unit} → Empty a w → listing [] a 0 ≡ partsOf s n t (length ys) l → Kept 0 w ys

@@ -145,13 +145,7 @@ fn first<'a>(base: &'a [u8], number: RecordNumber, t: &'a [u8], l: Rest, room: u
 }
 
 // The step behind a part that was written.
-fn next<'a>(
-    base: &'a [u8],
-    number: RecordNumber,
-    t: &'a [u8],
-    room: usize,
-    w: Standing,
-) -> Standing
+fn next<'a>(base: &'a [u8], number: RecordNumber, t: &'a [u8], room: usize, w: Standing) -> Standing
     requires { ⌜ Onward (now base) (now t) room w ⌝ }
     ensures { λ r. ⌜ Stands (w .h) (w .told .count + 1) (w .told .reads) (stepIn (now (base .entry)) number (recordOf (now (t .entry))) room (w .told .count + 1) (w .at)) r ⌝ }
 {
@@ -164,7 +158,13 @@ fn next<'a>(
 
 // The parts of an item, from its list on, written one by one to the front of a lent list: 21, 1, 2 and 22 first.
 // There is room for as many as the list has records; 20 where that is not enough.
-pub fn list<'a, 'b>(base: &'a [u8], number: RecordNumber, t: &'a [u8], l: Rest, list: &'b mut [Part]) -> Filled
+pub fn list<'a, 'b>(
+    base: &'a [u8],
+    number: RecordNumber,
+    t: &'a [u8],
+    l: Rest,
+    list: &'b mut [Part],
+) -> Filled
     ensures { λ r. ⌜ Fills (partsOf (now (base .entry)) number (now (t .entry)) (length (now (list .entry))) l) (now (list .entry)) (now (list .exit)) r ⌝ }
 {
     let room = list.len();
