@@ -26,11 +26,11 @@ pub struct Filled {
 // Where the filling stands: whether a part is to be written and which, where the step behind it begins, the table's numbers,
 // and what is reported if it ends here.
 pub struct Standing {
+    pub told: Filled,
     pub go: bool,
     pub part: Part,
     pub at: Cursor,
     pub h: Numbers,
-    pub told: Filled,
 }
 
 fn none(answer: Ended) -> Standing
@@ -53,11 +53,11 @@ fn none(answer: Ended) -> Standing
         reads: 0,
     };
     Standing {
+        told,
         go: false,
         part,
         at,
         h,
-        told,
     }
 }
 
@@ -78,11 +78,11 @@ fn stand(m: PartTurn, h: Numbers, count: usize, before: u64) -> Standing
                 reads,
             };
             Standing {
+                told,
                 go: true,
                 part,
                 at,
                 h,
-                told,
             }
         }
         PartKind::Stops(answer) => {
@@ -93,11 +93,11 @@ fn stand(m: PartTurn, h: Numbers, count: usize, before: u64) -> Standing
                 reads,
             };
             Standing {
+                told,
                 go: false,
                 part,
                 at,
                 h,
-                told,
             }
         }
     }
