@@ -26,9 +26,9 @@ pub struct Filled {
 // Where the filling stands: whether a part is to be written and which, where the step behind it begins, the table's numbers,
 // and what is reported if it ends here.
 pub struct Standing {
-    pub told: Filled,
     pub go: bool,
     pub part: Part,
+    pub told: Filled,
     pub at: Cursor,
     pub h: Numbers,
 }
@@ -53,9 +53,9 @@ fn none(answer: Ended) -> Standing
         reads: 0,
     };
     Standing {
-        told,
         go: false,
         part,
+        told,
         at,
         h,
     }
@@ -78,9 +78,9 @@ fn stand(m: PartTurn, h: Numbers, count: usize, before: u64) -> Standing
                 reads,
             };
             Standing {
-                told,
                 go: true,
                 part,
+                told,
                 at,
                 h,
             }
@@ -93,9 +93,9 @@ fn stand(m: PartTurn, h: Numbers, count: usize, before: u64) -> Standing
                 reads,
             };
             Standing {
-                told,
                 go: false,
                 part,
+                told,
                 at,
                 h,
             }
