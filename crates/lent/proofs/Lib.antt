@@ -1,2 +1,3 @@
--- What the walk of the loop leans on.
+-- What the walk of the loop leans on, and that the contract settles its result.
 pub mod Kept
+pub mod Settled
