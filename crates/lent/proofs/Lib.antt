@@ -1,3 +1,4 @@
--- What the walk of the loop leans on, and that the contract settles its result.
+-- What the two walks lean on, and that the contract settles its result.
 pub mod Kept
+pub mod Front
 pub mod Settled

@@ -176,3 +176,25 @@ pub fn list<'a, 'b>(
     }
     w.told
 }
+
+// A list by value, and what is reported of it.
+pub struct Taken {
+    pub parts: [Part; 157],
+    pub told: Filled,
+}
+
+// The front of an array is lent to `list`: a caller that lends nothing can have any room that the array has.
+fn lend<'a>(
+    base: &'a [u8],
+    number: RecordNumber,
+    t: &'a [u8],
+    l: Rest,
+    mut a: [Part; 157],
+    room: usize,
+) -> Taken
+    requires { ⌜ room ≤ 157 ⌝ }
+    ensures { λ r. ⌜ Fills (partsOf (now (base .entry)) number (now (t .entry)) room l) a (r .parts) (r .told) ⌝ }
+{
+    let told = list(base, number, t, l, &mut a[..room]);
+    Taken { parts: a, told }
+}

@@ -11,7 +11,7 @@ step-requires : tie.Need-step-requires
 step-requires c κs = let m = c .before .before .before .before .pre in (m .ready, (m .order, m .inside))
 
 stand-requires : tie.Need-stand-requires
-stand-requires c κs = (c .step .ensures .1, c .before .before .before .before .before .pre .few)
+stand-requires c κs = (c .step .ensures .1, omega (arith, c .before .before .before .before .before .pre .few))
 
 returns : tie.Need-returns
 returns c = stepped (c .before .step .ensures .0) (c .stand .ensures)
