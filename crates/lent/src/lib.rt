@@ -2,6 +2,7 @@
 use fields::Opened;
 use fields::RecordNumber;
 use items::Rest;
+use parts::Collected;
 use parts::Cursor;
 use parts::Ended;
 use parts::Part;
@@ -9,11 +10,12 @@ use parts::PartKind;
 use parts::PartTurn;
 use table::Numbers;
 use table::Tested;
-ghost use Prim.Native.Nat.{_+_, _≤_};
+ghost use mathlib.Core.Path.{_≡_};
+ghost use Prim.Native.Nat.{_+_, _≤_, min};
 ghost use lib.ListN.{length};
 ghost use Rattle.table.specs.Held.{recordOf};
 ghost use Rattle.items.specs.State.{Ready, noKey};
-ghost use Rattle.parts.specs.Parts.{toldEnded, toldTurn, cursor, stepIn, partsOf};
+ghost use Rattle.parts.specs.Parts.{toldEnded, toldTurn, cursor, stepIn, partsOf, blankParts, Collects};
 ghost use Rattle.lent.specs.Lent.{Fills, Stands, Onward, Empty, Begins};
 
 // What is reported: how many parts were written, how they end, and what was read.
@@ -197,4 +199,40 @@ fn lend<'a>(
 {
     let told = list(base, number, t, l, &mut a[..room]);
     Taken { parts: a, told }
+}
+
+fn clipped(room: usize) -> usize
+    ensures { λ r. ⌜ r ≡ min room 157 ⌝ }
+{
+    if room < 157 {
+        return room;
+    }
+    157
+}
+
+// The parts of an item by value, with any room up to 157: for callers that lend no list.
+pub fn list_within<'a>(
+    base: &'a [u8],
+    number: RecordNumber,
+    t: &'a [u8],
+    l: Rest,
+    room: usize,
+) -> Collected
+    ensures { λ r. ⌜ Collects (partsOf (now (base .entry)) number (now (t .entry)) (min room 157) l) blankParts r ⌝ }
+{
+    let none = parts::inner::blank();
+    let a = [none; 157];
+    let k = clipped(room);
+    let w = lend(base, number, t, l, a, k);
+    let parts = w.parts;
+    let told = w.told;
+    let count = told.count;
+    let answer = told.answer;
+    let reads = told.reads;
+    Collected {
+        parts,
+        count,
+        answer,
+        reads,
+    }
 }

@@ -313,9 +313,19 @@ module _ {M : Type 1} (𝓤 : URA M) (H : Heap 𝓤) (A : Atoms 𝓤) (W : Given
 
   lend-meets : Meets 𝓤 H A lend′.signature (WpFn 𝓤 H (𝓣 .C) (𝓣 .Λ) code.function) (lend′.spec 𝓤 H A mem run)
   lend-meets =
-      walk-meets 𝓤 H A lend′.ended stayed W
-      (goes-none-slice 𝓤 H A W 1 (0 ∷ []) tt (plain (λ _. u8)) yes, (goes-none 𝓤 H A W 1 (λ _. N.the-row) yes (λ κs x f. refl), (goes-none-slice 𝓤 H A W 1 (0 ∷ []) tt (plain (λ _. u8)) yes, (goes-none 𝓤 H A W 1 (λ _. L.the-row) yes (λ κs x f. refl),
-      (goes-none 𝓤 H A W 1 (λ _. Array T.the-row 157) yes (λ κs x f. refl), (goes-none 𝓤 H A W 1 (λ _. usize) yes (λ κs x f. refl), tt))))))
+      walk-meets 𝓤 H A lend′.ended stayed W (
+        goes-none-slice 𝓤 H A W 1 (0 ∷ []) tt (plain (λ _. u8)) yes,
+        (
+          goes-none 𝓤 H A W 1 (λ _. N.the-row) yes (λ κs x f. refl),
+          (
+            goes-none-slice 𝓤 H A W 1 (0 ∷ []) tt (plain (λ _. u8)) yes,
+            (
+              goes-none 𝓤 H A W 1 (λ _. L.the-row) yes (λ κs x f. refl),
+              (goes-none 𝓤 H A W 1 (λ _. Array T.the-row 157) yes (λ κs x f. refl), (goes-none 𝓤 H A W 1 (λ _. usize) yes (λ κs x f. refl), tt)),
+            ),
+          ),
+        ),
+      )
       (lend′.clauses 𝓤 H A mem run) (WpFn 𝓤 H (𝓣 .C) (𝓣 .Λ) code.function) (WpFn-mono 𝓤 H (W .laws) 𝓣 code.function) lend-walks
 
 pub lend-spec : {M : Type 1} → stated.statement M
