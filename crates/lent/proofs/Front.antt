@@ -4,7 +4,7 @@ use mathlib.Core.Path.{_≡_, sym, ap, _∙_}
 use mathlib.Core.List.{List, _++_, append-assoc}
 use native.Mathlib.Omega.{arith}
 use lib.ListN.{length, take, drop, length-append, length-drop, take-append-drop}
-use lib.Seq.{drop-append-le, length-take-le}
+use lib.Seq.{drop-append-le}
 use Rattle.parts.specs.Parts.{Listing, filled}
 use Rattle.parts.specs.declared.Part.{Part}
 use Rattle.lent.specs.Lent.{Fills}

@@ -42,7 +42,7 @@ pub record Stands (h : Numbers) (k before : ℕ) (x : Stepped) (w : Standing) : 
   pub step : toldStanding w ≡ counted before x
   pub few : w .told .reads ≤ before + 257
 
--- what the loop has shown where it asks for the step behind a part: no step reads more than 257, and none of 4,096 bytes is read twice
+-- what the loop has shown where it asks for the step behind a part; a step reads 257 at most and takes a byte at least, of 4,096
 pub record Onward (s t : List ℕ) (room : ℕ) (w : Standing) : Type 0 where
   pub ready : Ready s t (w .h)
   pub order : w .at .list .from ≤ w .at .list .to

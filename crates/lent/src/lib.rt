@@ -25,8 +25,8 @@ pub struct Filled {
     pub reads: u64,
 }
 
-// Where the filling stands: whether a part is to be written and which, where the step behind it begins, the table's numbers,
-// and what is reported if it ends here.
+// Where the filling stands: whether there is a part to write, and which; what is reported if it ends here;
+// where the step behind the part begins; and the table's numbers.
 pub struct Standing {
     pub go: bool,
     pub part: Part,
@@ -35,6 +35,7 @@ pub struct Standing {
     pub h: Numbers,
 }
 
+// Ended before the first part: there is none to write, and no step behind it.
 fn none(answer: Ended) -> Standing
     ensures { λ r. ⌜ Empty (toldEnded answer) r ⌝ }
 {
@@ -73,10 +74,9 @@ fn stand(m: PartTurn, h: Numbers, count: usize, before: u64) -> Standing
     let kind = m.kind;
     match kind {
         PartKind::Lists(part) => {
-            let answer = Ended::Whole;
             let told = Filled {
                 count,
-                answer,
+                answer: Ended::Whole,
                 reads,
             };
             Standing {
@@ -185,7 +185,7 @@ pub struct Taken {
     pub told: Filled,
 }
 
-// The front of an array is lent to `list`: a caller that lends nothing can have any room that the array has.
+// The front of an array is lent to `list`: so a caller that lends no list can have any room that the array has.
 fn lend<'a>(
     base: &'a [u8],
     number: RecordNumber,

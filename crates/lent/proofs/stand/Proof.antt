@@ -1,9 +1,8 @@
 -- The step's kind decides: a part to write, or how the parts end.
 use Rattle.fields.specs.Pick.{pick}
-use Rattle.parts.specs.Parts.{toldKind}
+use Rattle.parts.specs.Parts.{toldKind, toldTurn}
 use Rattle.parts.specs.declared.PartTurn.{PartTurn}
 use Rattle.parts.specs.declared.PartKind.{PartKind}
-use Rattle.parts.specs.Parts.{Stepped, toldTurn}
 use Rattle.lent.specs.Lent.{toldStanding, counted}
 use Prim.Native.Nat.{ℕ}
 use mathlib.Core.Path.{_≡_, refl, sym, ap}

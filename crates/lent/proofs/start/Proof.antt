@@ -1,12 +1,20 @@
 -- The first step is made at the list's own entry, without a key.
+use Prim.Native.Nat.{ℕ}
 use Rattle.items.specs.declared.Key.{Key}
+use Rattle.table.specs.declared.Numbers.{Numbers}
 use Rattle.table.specs.Held.{recordOf}
-use Rattle.parts.specs.Parts.{cursor, stepIn}
+use Rattle.parts.specs.Parts.{Stepped, cursor, stepIn}
+use Rattle.lent.specs.Lent.{Stands}
+use Rattle.lent.specs.declared.Standing.{Standing}
 use Rattle.lent.proofs.Kept.{stepped}
-use mathlib.Core.Path.{ap, _∙_}
+use mathlib.Core.Path.{_≡_, ap}
 use borrow.Author.Needs.{needs}
 use Rattle.lent.proofs.start.Statement.{statement}
 use Rattle.lent.proofs.start.Tie as tie
+
+-- a step that depends on the key, with the key that a call gave
+keyed : {h : Numbers} {k before : ℕ} {w : Standing} (f : Key → Stepped) {j i : Key} {x : Stepped} → x ≡ f j → j ≡ i → Stands h k before x w → Stands h k before (f i) w
+keyed f p q s = stepped (ap f q) (stepped p s)
 
 no-key-requires : tie.Need-no-key-requires
 no-key-requires c κs = search needs
@@ -18,8 +26,10 @@ stand-requires : tie.Need-stand-requires
 stand-requires c κs = search needs
 
 returns : tie.Need-returns
-returns c = let a = c .before .before .before .before .before .args in
-    stepped (c .before .step .ensures .0 ∙ ap (λ (k : Key). stepIn (a .base .now) (a .number) (recordOf (a .t .now)) (a .room) 0 (cursor (a .l) k)) (c .before .before .no-key .ensures)) (c .stand .ensures)
+returns c =
+    keyed
+    (λ (k : Key). stepIn (c .before .before .before .before .before .args .base .now) (c .before .before .before .before .before .args .number) (recordOf (c .before .before .before .before .before .args .t .now)) (c .before .before .before .before .before .args .room) 0 (cursor (c .before .before .before .before .before .args .l) k))
+    (c .before .step .ensures .0) (c .before .before .no-key .ensures) (c .stand .ensures)
 
 pub start-spec : {M : Type 1} → statement M
 start-spec = tie.close (tie.spec no-key-requires step-requires stand-requires returns)
