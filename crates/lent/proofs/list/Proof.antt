@@ -22,7 +22,7 @@ use ghost.Atoms.{Atoms, sem}
 use contract.Monad.{Fun, fact}
 use contract.Running.{givenOf, tables, tablesOf}
 use types.Kit.{Given, Item, ‵, raw, _⊛_, some, later, ⋆, anyQ, atRet, runs, Sq, _$_, _∵_, !, qed, by, move, keep, drop, use1, use2, split, join, pick, rewrite, fsplit, fjoin, suffices, frame, await, done}
-use types.Kit as Goal
+use types.Kit as Kit
 use types.Run.{look, init, store, store-raw, forget, stop, hop, fld, from, load, lit, of-opd, bin, and-then, no-more, assigns, land, land-last, stays, leaves-loop, first, blocks, loops, again, Below, exec, returns, enter, alloc1, alloc0, params1, pass1, pass0, free1, free0}
 use types.Part.{whole, sub, look-in}
 use sound.WpLaws.{FmC, fmOf, WpFn-mono}
@@ -294,7 +294,7 @@ module _ {M : Type 1} (𝓤 : URA M) (H : Heap 𝓤) (A : Atoms 𝓤) (W : Given
           after r e is = record { k = left (z .w .at); w = r; zs = written (z .w) (z .zs); is = is; kept = kept-next (now s) n (now t) l ys (z .k) (z .w) (z .zs) going r e }
 
       -- the pointer is at the part's place, and the part is written there, whatever else is at hand
-      stores : (w : Standing) (zs : List Part) (Γ : List (Item 𝓤)) (goal : Goal.Post 𝓤 H) → StandingIs w → w .told .count < length zs
+      stores : (w : Standing) (zs : List Part) (Γ : List (Item 𝓤)) (goal : Kit.Post 𝓤 H) → StandingIs w → w .told .count < length zs
           → Sq W (Front w (written w zs) Γ) (runs C Λ En to-call goal) → Sq W (Pointed w zs Γ) (runs C Λ En to-store goal)
       stores w zs Γ goal is within go-on =
           elem-out ! T.the-row (Is T.the-row) (shows 𝓤 H A T.the-row) (LL.vals T.the-type T′.the-laws) (LL.tells T.the-type T′.the-laws) fullShare zs (w .told .count) (w .part) b o within (λ _.
@@ -304,7 +304,7 @@ module _ {M : Type 1} (𝓤 : URA M) (H : Heap 𝓤) (A : Atoms 𝓤) (W : Given
           elem-put ! T.the-row fullShare zs (w .told .count) (w .part) (T′.lowered (w .part) ∷ []) b o within $ forget ! 2 refl $ forget ! 3 refl $ forget ! 4 refl $ forget ! 5 refl $ go-on)
 
       -- a turn with a part at hand, down to where the pointer is at the part's place
-      points : (w : Standing) (zs : List Part) (Γ : List (Item 𝓤)) (goal : Goal.Post 𝓤 H) → StandingIs w → w .go ≡ true → w .told .count < length ys
+      points : (w : Standing) (zs : List Part) (Γ : List (Item 𝓤)) (goal : Kit.Post 𝓤 H) → StandingIs w → w .go ≡ true → w .told .count < length ys
           → Sq W (Pointed w zs Γ) (runs C Λ En to-store goal) → Sq W (Front w zs Γ) (runs C Λ En code.Mir.turn-1 goal)
       points w zs Γ goal is g fits go-on =
           assigns ! (of-opd ! (load ! (from ! (fld ! refl (stop !))) (look-in ! 1 (sub ! 0 refl (whole !))))) (from ! (stop !)) (init ! 3 refl (tt, tt)) $
