@@ -307,6 +307,10 @@ def building(room):
     # and with it built, these tools are all that ./list needs
     script(os.path.join(tree, "target", "bin", "listing"), "cat\necho end reads 6\n")
     same(run("-", at=os.path.join(tree, "list"), env={"PATH": tools}, input=b"x\n"), 0, b"x\nend reads 6\n", "")
+    # without readlink, from the folder above, where CDPATH knows another folder of that name
+    os.remove(os.path.join(tools, "readlink"))
+    os.makedirs(os.path.join(room, "elsewhere", "without"))
+    same(run("-", at="without/list", cwd=room, env={"PATH": tools, "CDPATH": os.path.join(room, "elsewhere")}, input=b"x\n"), 0, b"x\nend reads 6\n", "")
     # help needs nothing built
     tree = tree_with(room, "helped")
     same(run("--help", at=os.path.join(tree, "list"), env=never), *run("--help"))
