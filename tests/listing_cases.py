@@ -98,8 +98,6 @@ def tables():
 
     yield Case("good-64", changed(0, 2), "the smallest records; each table below has one fault more", "end reads 0", ("record 40 size 64",))
     for name, k, value, about in (
-            ("size-56", 1, 56, "record size under 64"), ("size-68", 1, 68, "record size no multiple of 8"),
-            ("size-4104", 1, 4104, "record size over 4,096"), ("directory-19", 2, 19, "directory offset under 20"),
             ("directory-end", 2, 21, "directory end past the records offset"), ("records-end", 3, 173, "records offset past the table"),
             ("base-above", 4, 3, "base row above count"), ("row-first", 5, (2 ** 48, 44), "a row's number at 2^48, and so above the next"),
             ("row-equal", 6, (40, 108), "a row's number equal to the row before"), ("row-below", 6, (39, 108), "a row's number under the row before"),
@@ -108,6 +106,12 @@ def tables():
         yield Case(name, changed(k, value), about, REFUSED)
     yield Case("row-2-48-less-1", changed(6, (NUMBER_MOST, 108)), "the last row's number just under 2^48", "end reads 0", ("record 40 size 64",))
     yield Case("base-last", changed(4, 1), "the last row is the base", "end reads 0", ("record 41 size 64",))
+    # these have one fault alone: there is room for the record, and the row at 19 is whole, its first byte the base row's last
+    for size, about in ((56, "under 64"), (68, "no multiple of 8"), (4104, "over 4,096")):
+        yield Case("size-%d" % size, struct.pack("<5IQI", 1, size, 20, 32, 0, 40, 32) + record(4096).ljust(4104, b"\0"), "record size %s" % about, REFUSED)
+    for at, last in ((19, REFUSED), (20, "end reads 0")):
+        text = struct.pack("<5I", 1, 64, at, 32, 0)[:at] + struct.pack("<QI", 256, 32)
+        yield Case("directory-%d" % at, text.ljust(32, b"\0") + r, "directory offset %d" % at, last)
     most = record(4096, FRONT, stream(2, 4000, 96, size=7))
     yield Case("size-4096", table({BASE: most}), "the largest records", "end reads 2", (
         "record 40 size 4096", "attr 40 80 128 4000 2 name 0 0 value runs 176 3904 size 7"))
@@ -140,6 +144,8 @@ def walks():
     yield Case("stopped-3", of(plain(3, 16), first=44, size=64, end=b"\x10\0\0\0"), "4 bytes left, no marker", "stopped 3 reads 1",
                ("record 40 size 64", "attr 40 44 16 16 3 name 0 0 value refused 7"))
     yield Case("left-3", of(plain(3, 17), first=44, size=64, end=b""), "3 bytes left: the end", "end reads 1")
+    for length, last in ((16, "end reads 1"), (17, "stopped 5 reads 0")):
+        yield Case("left-16-length-%d" % length, of(bare(0x10, length), first=48, size=64, end=b""), "16 bytes left, length %d" % length, last)
     fill = plain(0, 192, ty=0x30)
     yield Case("stopped-3-lookup", of(FRONT, listed, others=[record(256, fill, end=b"\x80\0\0\0")]), "3 in a record looked up", "stopped 3 reads 4", lookup)
     yield Case("stopped-4", of(FRONT, bare(0x10, 15)), "length 15", "stopped 4 reads 1", lookup)
@@ -150,6 +156,10 @@ def walks():
     yield Case("stopped-6", of(FRONT, list_of(to(BASE, ty=0x88))), "an entry of unknown type, though it names the base record", "stopped 6 reads 3", lookup)
     yield Case("stopped-6-lookup", of(FRONT, listed, others=[[plain(), plain(1, ty=0x81), stream()]]), "an attribute of unknown type before the one sought",
                "stopped 6 reads 5", lookup)
+    for ty in (0, 0x110):
+        yield Case("stopped-6-%d" % ty, of(FRONT, list_of(to(ty=ty)), others=[[stream(ty=ty)]]), "type %d is unknown" % ty, "stopped 6 reads 3", lookup)
+    yield Case("stopped-18-marker", of(FRONT, list_of(to(ty=0xFFFFFFFF)), others=[[plain(), END]]), "the marker's type is known, and never found",
+               "stopped 18 reads 4", lookup)
     yield Case("stopped-7", of(FRONT, plain(9, 23, ty=0x20)), "a list of 23 bytes", "stopped 7 reads 2", lookup)
     yield Case("stopped-7-runs", of(FRONT, stream(9, 63, ty=0x20)), "a non-resident list of 63 bytes: 7 before 13", "stopped 7 reads 2", lookup)
     yield Case("stopped-10", of(FRONT, plain(9, 24, 0, 25, ty=0x20)), "a list's value offset past its length", "stopped 10 reads 2", lookup)
@@ -227,6 +237,8 @@ def parts():
                (line + "2 size 1", good, "part 42 80 5 144 0", "attr 42 56 128 24 2 name 0 0 value resident 80 0"))
     yield Case("parts-type", of(list_of(to(), to(OTHER, ty=0x90)), others=[[stream(), stream(ty=0x90)]]), "the instance agrees and the type is another known one",
                "end reads 12", (line + "1 size 4000", good, "attr 41 120 144 64 1 name 0 0 value parts 1 size 4000", "part 41 120 0 184 0"))
+    yield Case("parts-unknown", of(list_of(to(), to(THIRD, 2, ty=0x81)), others=[[stream()]]), "an unknown type with another instance ends the parts; the walk stops",
+               "stopped 6 reads 7", (line + "1 size 4000", good))
     yield Case("parts-base", of(list_of(to(), to(BASE), to(THIRD)), stream(lowest=3), others=[[stream()], [stream(lowest=6)]]),
                "an entry of the base record is passed over by the walk and counts as a part", "end reads 13",
                (line + "3 size 4000", good, "part 40 160 3 224 0", "part 42 56 6 120 0", "attr 40 160 128 64 1 name 0 0 value runs 224 0 size 4000"))
