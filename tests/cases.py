@@ -241,6 +241,26 @@ def random_ones(program, count, real):
     return seen
 
 
+def no_more_parts():
+    """That 157 parts don't fit, as tests/cases/README.md says: all places of a list of 157 entries in 4,096 bytes are tried."""
+    size, need = 4096, 157 * 26
+
+    def agree(*fields):
+        held = {}
+        return all(held.setdefault(at + k, b) == b for at, width, number in fields for k, b in enumerate(number.to_bytes(width, "little")))
+
+    for start in range(size - need + 1):
+        for at in range(start + 1):
+            # the word FILE and the first attribute offset; the list's type, residence and value offset
+            fixed = (0, 4, int.from_bytes(b"FILE", "little")), (20, 2, at), (at, 4, 0x20), (at + 8, 1, 0), (at + 20, 2, start - at)
+            for ty in range(0x10, 0x110, 0x10):
+                # the first entry's type, length and name units; then the list's value length and its own length
+                entry = (start, 4, ty), (start + 4, 2, 26), (start + 6, 1, 0)
+                for count in range(need, size - start + 1):
+                    for length in range(start - at + count, size - at + 1):
+                        assert not agree(*fixed, *entry, (at + 16, 4, count), (at + 4, 4, length)), (start, at)
+
+
 # The input's length, and its pieces.
 
 def inputs(program):
@@ -331,10 +351,12 @@ def failed_writes(program):
             subprocess.run(program.command, stdin=table, stderr=subprocess.DEVNULL, timeout=LONG, **given)
 
     ends(preexec_fn=lambda: os.close(1))
-    reader, writer = os.pipe()
-    os.close(reader)
-    ends(stdout=writer)
-    os.close(writer)
+    # with the signal that ends a writer, and with the error that it gets where that signal is ignored, as it is in Python
+    for restored in (True, False):
+        reader, writer = os.pipe()
+        os.close(reader)
+        ends(stdout=writer, restore_signals=restored)
+        os.close(writer)
     with open("/dev/full", "wb") as full:
         ends(stdout=full)
 
@@ -350,6 +372,7 @@ def main():
     assert len(cases) == len(names_in(FOLDER)) + len(names_in(OTHERS))
     up_to_date(cases)
     count = refusals(cases)
+    no_more_parts()
     stop_at(differences(program, cases), len(cases))
     print("listing: %d tables, %d lines, %d kinds of refusal, as kept" % (len(cases), sum(c[1].count(b"\n") for c in cases.values()), len(count)))
     notices(program, cases)

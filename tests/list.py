@@ -6,6 +6,7 @@ that stands in: ./list knows no other way to be told which program to run.
 import os
 import shutil
 import signal
+import socket
 import stat
 import subprocess
 import sys
@@ -132,6 +133,13 @@ def names_of_files(room):
     same(run("folder", cwd=room), 3, b"", "list: folder: is a directory\n")
     os.symlink("nowhere", os.path.join(room, "broken"))
     same(run("broken", cwd=room), 3, b"", "list: broken: no such file\n")
+    # a socket may be read by its rights and cannot be opened; the listing before it is not given again
+    with socket.socket(socket.AF_UNIX) as door:
+        os.chdir(room)
+        door.bind("socket")
+        os.chdir(ROOT)
+    status, out, said = run(case("whole"), "socket", cwd=room)
+    same((status, out, said.endswith("\nlist: socket: no listing, the input could not be read\n")), 3, listing("whole"), True)
     closed = os.path.join(room, "closed.tab")
     shutil.copy(case("whole"), closed)
     os.chmod(closed, 0)
@@ -181,11 +189,13 @@ def outputs():
     same((status, said.endswith("list: %s: %s" % (case("parts-156"), NOT_WRITTEN))), 74, True)
     with open("/dev/full", "wb") as full:
         assert run("--help", stdout=full)[0] != 0
-    reader, writer = os.pipe()
-    os.close(reader)
-    status, _, said = run(case("parts-156"), stdout=writer)
-    os.close(writer)
-    same((status, said.endswith("list: %s: %s" % (case("parts-156"), NOT_WRITTEN))), 74, True)
+    # a pipe without a reader, for a caller that lets the signal end its programs and for one that does not
+    for restored in (True, False):
+        reader, writer = os.pipe()
+        os.close(reader)
+        status, _, said = run(case("parts-156"), stdout=writer, restore_signals=restored)
+        os.close(writer)
+        same((status, said.endswith("list: %s: %s" % (case("parts-156"), NOT_WRITTEN))), 74, True)
     # where the first of two cannot be written, the second is not tried
     with open("/dev/full", "wb") as full:
         status, _, said = run(case("whole"), case("parts-2"), stdout=full)
@@ -300,7 +310,7 @@ def building(room):
     tree = tree_with(room, "without")
     tools = os.path.join(room, "tools")
     os.mkdir(tools)
-    for tool in ("sh", "dirname", "readlink", "cat", "date", "uname", "mktemp", "rm", "tee", "tail", "wc", "grep"):
+    for tool in ("sh", "dirname", "readlink", "cat", "date", "uname", "mktemp", "rm", "tail", "wc", "grep"):
         os.symlink(shutil.which(tool), os.path.join(tools, tool))
     same(run(case("whole"), at=os.path.join(tree, "list"), env={"PATH": tools}), 69, b"",
          "list: target/bin/listing is not built, and there is no rt to build it with\n")
@@ -327,7 +337,9 @@ def leaves_nothing(room):
     same((os.listdir(kept),), [])
     tree = tree_with(room, "sleeps", program="echo record 40 size 64\nsleep 1\n")
     for number, status in ((signal.SIGINT, 130), (signal.SIGTERM, 143), (signal.SIGHUP, 129)):
-        run_ = subprocess.Popen([os.path.join(tree, "list"), case("whole")], env=env, stdout=subprocess.PIPE, stderr=subprocess.PIPE)
+        # a test that runs in the background may have been told to ignore them, and a shell cannot trap what it finds ignored
+        run_ = subprocess.Popen([os.path.join(tree, "list"), case("whole")], env=env, stdout=subprocess.PIPE, stderr=subprocess.PIPE,
+                                preexec_fn=lambda: [signal.signal(n, signal.SIG_DFL) for n in (signal.SIGINT, signal.SIGTERM, signal.SIGHUP)])
         assert run_.stdout.readline() == b"record 40 size 64\n"
         assert len(os.listdir(kept)) == 1
         run_.send_signal(number)
