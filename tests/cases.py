@@ -13,7 +13,6 @@ import ctypes
 import mmap
 import os
 import random
-import re
 import shutil
 import subprocess
 import sys
@@ -23,7 +22,6 @@ import time
 import asking
 import listing_cases
 import listing_reading
-import walk_cases
 
 TESTS = os.path.dirname(os.path.abspath(__file__))
 FOLDER = os.path.join(TESTS, "cases")
@@ -44,7 +42,6 @@ NEEDED = {
     *("value parts 0 refused %d" % n for n in (7, 12)),
     *("value parts 1 refused %d" % n for n in (2, 3, 4, 5, 6, 7, 12, 14, 15, 16, 17, 18, 19)),
 }
-REFUSED = re.compile("table refused 21|stopped [0-9]+|name refused [0-9]+|value refused [0-9]+|value parts [0-9]+ refused [0-9]+")
 NEVER = {"stopped %d" % n for n in (1, 8, 9, 12, 19, 20, 21, 22)}
 
 
@@ -136,9 +133,7 @@ def up_to_date(cases):
         if d:
             sys.exit(shown(name, d) + "\nthe second reading and the kept listing differ: tests/make_cases writes it anew")
         if name in by_hand:
-            case, lines = by_hand[name], listing.decode("ascii").split("\n")[:-1]
-            rest = iter(lines)
-            if text != case.text or lines[-1] != case.last or not all(line in rest for line in case.has):
+            if text != by_hand[name].text or listing_cases.missing(by_hand[name], listing):
                 sys.exit("%s is not the case of tests/listing_cases.py" % name)
     sample = (read(SAMPLE, "stdin"), read(SAMPLE, "stdout"))
     if sample != (listing_cases.WHOLE, listing_cases.WHOLE_LISTING.encode()) or sample != cases["whole"]:
@@ -146,7 +141,7 @@ def up_to_date(cases):
 
 
 def refusals(cases):
-    count = collections.Counter(word for _, listing in cases.values() for word in REFUSED.findall(listing.decode("ascii")))
+    count = collections.Counter(word for _, listing in cases.values() for word in listing_cases.refusals(listing.decode("ascii")))
     if NEEDED - set(count):
         sys.exit("refusals that no case has: %s" % sorted(NEEDED - set(count)))
     assert not NEVER & set(count) and not any(word.endswith(" refused 20") for word in count)
@@ -161,7 +156,8 @@ def notices(program, cases):
         at = chance.randrange(len(listing))
         changed = listing[:at] + bytes([listing[at] ^ 1]) + listing[at + 1:]
         assert difference(changed, listing)[0] == listing.count(b"\n", 0, at) + 1, name
-    for wrong in (b"", WHOLE[:-1], WHOLE + b"\n", WHOLE + b"end reads 2\n", WHOLE[WHOLE.index(b"\n") + 1:], WHOLE.replace(b"\n", b"\r\n"), WHOLE.replace(b" ", b"  ")):
+    for wrong in (b"", WHOLE[:-1], WHOLE + b"\n", WHOLE + b"end reads 2\n", WHOLE[WHOLE.index(b"\n") + 1:],
+                  WHOLE.replace(b"\n", b"\r\n"), WHOLE.replace(b" ", b"  ")):
         assert difference(WHOLE, wrong) and difference(wrong, WHOLE), wrong
     # in a copy of the folder, by the same steps as the test's own
     with tempfile.TemporaryDirectory() as room:
@@ -192,35 +188,9 @@ WHOLE = listing_cases.WHOLE_LISTING.encode()
 
 # Random and damaged tables.
 
-def random_tables(count, real, chance):
-    small = [text for text in real if len(text) <= 12000]
-    for k in range(count):
-        what = k % 16
-        if what < 6:
-            text = listing_cases.random_listed(chance)
-        elif what < 9:
-            text = walk_cases.damaged(chance.choice(small), chance)
-        elif what < 11:
-            text = walk_cases.damaged(listing_cases.random_listed(chance), chance)
-        elif what < 13:
-            text = walk_cases.random_table(chance)
-        elif what < 15:
-            text = walk_cases.chained_table(chance)
-        elif k % 5 == 0:
-            text = walk_cases.large_table(chance)
-        else:
-            # a table whose header or rows are hurt, or which is cut
-            text = bytearray(walk_cases.random_table(chance))
-            if chance.random() < 0.3:
-                text = text[:chance.randrange(len(text))]
-            else:
-                text[chance.randrange(44)] ^= 1 << chance.randrange(8)
-        yield bytes(text)
-
-
 def random_ones(program, count, real):
     """The program has one table a run, so several run at once."""
-    tables = list(random_tables(count, real, random.Random(SEED)))
+    tables = list(listing_cases.random_tables(count, real, random.Random(SEED)))
     seen = collections.Counter()
     with concurrent.futures.ThreadPoolExecutor(os.cpu_count()) as threads:
         for k, found in enumerate(threads.map(program.on_pipe, tables)):
@@ -230,11 +200,11 @@ def random_ones(program, count, real):
                 text = tables[k]
                 print(shown("random table %d of seed %d, %s" % (k, SEED, text.hex() if len(text) <= 4096 else "%d bytes" % len(text)), d))
                 sys.exit("a random table's listing differs")
-            seen.update(re.sub("parts [0-9]+", "parts", word) for word in set(REFUSED.findall(expected.decode("ascii"))))
+            seen.update({listing_cases.without_number(word) for word in listing_cases.refusals(expected.decode("ascii"))})
             seen["end"] += expected.split(b"\n")[-2].startswith(b"end ")
     # a thousand tables and more must bring about nearly everything, or they show less than they seem to
     if count >= 1000:
-        wanted = {re.sub("parts [0-9]+", "parts", word) for word in NEEDED} - {"value parts refused %d" % n for n in (2, 3, 4)}
+        wanted = {listing_cases.without_number(word) for word in NEEDED} - {"value parts refused %d" % n for n in (2, 3, 4)}
         if wanted - set(seen):
             sys.exit("refusals that no random table has: %s" % sorted(wanted - set(seen)))
         assert seen["end"] > count // 8, seen["end"]

@@ -281,7 +281,9 @@ def path_with(room, name, rt):
 def building(room):
     """Builds where nothing is built, by rt check listing, says so, and lists then. No rt is asked where it is built."""
     first = 'list: target/bin/listing is not built yet; "rt check listing" proves and builds it, which takes some minutes\n'
-    good = 'cat\necho "rt $* in $PWD"\nmkdir -p target/bin\nprintf "#!/bin/sh\\ncat >/dev/null\\necho end reads 5\\n" >target/bin/listing\nchmod +x target/bin/listing\n'
+    good = (
+        'cat\necho "rt $* in $PWD"\nmkdir -p target/bin\n'
+        'printf "#!/bin/sh\\ncat >/dev/null\\necho end reads 5\\n" >target/bin/listing\nchmod +x target/bin/listing\n')
     never = path_with(room, "never", "echo rt was asked >&2\nexit 1\n")
     env = path_with(room, "good", good)
 

@@ -2,9 +2,11 @@
 
 tests/make_cases writes the folder from here; tests/cases.py holds the folder to it and the program to the folder.
 """
+import re
 import struct
 from typing import NamedTuple
 
+import walk_cases
 from walk_cases import END, entry, head, list_of, record, table
 
 BASE, OTHER, THIRD, FOURTH = 40, 41, 42, 43
@@ -168,12 +170,14 @@ def walks():
     yield Case("stopped-13", of(FRONT, stream(9, ty=0x20)), "a list that is not resident", "stopped 13 reads 2", lookup)
     yield Case("stopped-13-runs", of(FRONT, stream(9, 64, 65, ty=0x20)), "13 without 12: its runs offset is past its length", "stopped 13 reads 2", lookup)
     yield Case("stopped-14", of(FRONT, list_of(to(BASE), to(BASE), cut=1)), "25 bytes left of a list", "stopped 14 reads 3", lookup)
-    yield Case("stopped-15", of(FRONT, list_of(to(BASE), to(length=27, units=1, name=b"n"))), "entry length 27 with one name unit", "stopped 15 reads 3", lookup)
+    yield Case("stopped-15", of(FRONT, list_of(to(BASE), to(length=27, units=1, name=b"n"))), "entry length 27 with one name unit",
+               "stopped 15 reads 3", lookup)
     yield Case("stopped-16", of(FRONT, list_of(to(BASE), to(units=1), cut=2)), "an entry's name is cut", "stopped 16 reads 3", lookup)
     yield Case("entry-longer", of(FRONT, list_of(to(length=40), cut=8), plain(2)), "an entry longer than what is left: the list ends", "end reads 3", (
         *lookup, "attr 40 144 16 24 2 name 0 0 value resident 168 0"))
     yield Case("stopped-17", of(FRONT, listed), "a record that the table lacks", "stopped 17 reads 3", lookup)
-    yield Case("stopped-18", of(FRONT, listed, others=[[plain(), stream(2), stream(1, ty=0x90)]]), "type and instance agree in no attribute", "stopped 18 reads 6", lookup)
+    yield Case("stopped-18", of(FRONT, listed, others=[[plain(), stream(2), stream(1, ty=0x90)]]), "type and instance agree in no attribute",
+               "stopped 18 reads 6", lookup)
     yield Case("list-empty", of(FRONT, list_of(), plain(2)), "an empty list", "end reads 3", lookup)
     yield Case("list-two", of(list_of(to()), list_of(to(THIRD)), plain(2), others=[[stream()], [stream()]]),
                "the skip key outlives a list: the second entry is passed over", "end reads 8",
@@ -235,10 +239,10 @@ def parts():
     yield Case("parts-2", of(list_of(to(), to(THIRD), to(THIRD, 2)), others=[[stream(size=1)], [plain(2, ty=0x80), stream(lowest=5, size=2)]]),
                "the size is the first part's; the third entry has another instance", "end reads 12",
                (line + "2 size 1", good, "part 42 80 5 144 0", "attr 42 56 128 24 2 name 0 0 value resident 80 0"))
-    yield Case("parts-type", of(list_of(to(), to(OTHER, ty=0x90)), others=[[stream(), stream(ty=0x90)]]), "the instance agrees and the type is another known one",
-               "end reads 12", (line + "1 size 4000", good, "attr 41 120 144 64 1 name 0 0 value parts 1 size 4000", "part 41 120 0 184 0"))
-    yield Case("parts-unknown", of(list_of(to(), to(THIRD, 2, ty=0x81)), others=[[stream()]]), "an unknown type with another instance ends the parts; the walk stops",
-               "stopped 6 reads 7", (line + "1 size 4000", good))
+    yield Case("parts-type", of(list_of(to(), to(OTHER, ty=0x90)), others=[[stream(), stream(ty=0x90)]]),
+               "the instance agrees and the type is another known one", "end reads 12", (line + "1 size 4000", good, "attr 41 120 144 64 1 name 0 0 value parts 1 size 4000", "part 41 120 0 184 0"))
+    yield Case("parts-unknown", of(list_of(to(), to(THIRD, 2, ty=0x81)), others=[[stream()]]),
+               "an unknown type with another instance ends the parts; the walk stops", "stopped 6 reads 7", (line + "1 size 4000", good))
     yield Case("parts-base", of(list_of(to(), to(BASE), to(THIRD)), stream(lowest=3), others=[[stream()], [stream(lowest=6)]]),
                "an entry of the base record is passed over by the walk and counts as a part", "end reads 13",
                (line + "3 size 4000", good, "part 40 160 3 224 0", "part 42 56 6 120 0", "attr 40 160 128 64 1 name 0 0 value runs 224 0 size 4000"))
@@ -265,7 +269,8 @@ def parts():
     yield refused(3, "3", "3 in the second part's record", "end reads 9", two, record(256, plain(0, 192), end=b"\x80\0\0\0"), more=behind)
     yield refused(4, "4", "4 in the second part's record", "end reads 8", two, [bare(0x80, 15, 1)], more=behind)
     yield refused(5, "5", "5 in the second part's record", "end reads 8", two, [bare(0x80, 201, 1)], more=behind)
-    yield refused(6, "6-entry", "an agreeing instance with an unknown type; the walk stops there too", "stopped 6 reads 7", [to(), to(THIRD, ty=0x81)], [stream()])
+    yield refused(6, "6-entry", "an agreeing instance with an unknown type; the walk stops there too", "stopped 6 reads 7",
+                  [to(), to(THIRD, ty=0x81)], [stream()])
     yield refused(6, "6", "an attribute of unknown type in the second part's record", "end reads 9", two, [plain(ty=0x81), stream()], more=behind)
     yield refused(7, "7", "the second part's header is short", "end reads 9", two, [stream(1, 63)], more=behind)
     yield refused(12, "12", "the second part's runs offset is past its length", "end reads 9", two, [stream(1, 64, 65)], more=behind)
@@ -307,13 +312,16 @@ def most():
         NUMBER_MOST: [bare(0x10, 1000), bytes(984), stream(65535, 2100, 1000, FIELD_MOST - 1, 5, 0x100, 255, 1590)],
     }
     # the base's three attributes; the walk's entry and two attributes; two parts of 3 reads; one entry passed over
-    yield Case("long-lines", table({n: record(4096, *held) for n, held in long.items()}, NUMBER_MOST - 2), "the longest numbers of each field", "end reads 13", (
+    text = table({n: record(4096, *held) for n, held in long.items()}, NUMBER_MOST - 2)
+    yield Case("long-lines", text, "the longest numbers of each field", "end reads 13", (
         "record 281474976710653 size 4096",
         "attr 281474976710653 1056 4294967294 1100 65535 name 1646 510 value runs 1156 1000 size 18446744073709551615",
         "attr 281474976710654 1056 256 2100 65535 name 2646 510 value parts 2 size 18446744073709551615",
         "part 281474976710654 1056 18446744073709551615 2056 1100",
         "part 281474976710655 1056 18446744073709551614 2056 1100"))
-    yield Case("records-64", records_64(), "64 records of 1,024 bytes, lying over each other's ends, since 63 fill the input", "end reads %d" % (1 + 58 + 35 * 58 + 34), (
+    # the list 1; the walk's entry and 57 attributes; 35 parts of the same; 34 entries passed over
+    reads = 1 + 58 + 35 * 58 + 34
+    yield Case("records-64", records_64(), "64 records of 1,024 bytes, lying over each other's ends", "end reads %d" % reads, (
         "record 0 size 1024", "attr 3 952 128 64 1 name 0 0 value parts 35 size 4000", "part 63 952 0 1016 0"))
     # 250 attributes of 16 bytes in front of the one sought, and again in each part
     lot = record(4096, *[bare(0x10, 16)] * 248, stream())
@@ -383,6 +391,53 @@ def random_listed(chance):
         magic = b"FILE" if chance.random() < 0.97 else b"BAAD"
         records[n] = record(size, *held, magic=magic, end=END if chance.random() < 0.9 else b"")
     return table(records, base, gap=chance.choice((0, 0, 4)))
+
+
+def random_tables(count, real, chance):
+    """Tables with parts, damaged copies of them and of real ones, and the item walk's random ones."""
+    small = [text for text in real if len(text) <= 12000]
+    for k in range(count):
+        what = k % 16
+        if what < 6:
+            text = random_listed(chance)
+        elif what < 9:
+            text = walk_cases.damaged(chance.choice(small), chance)
+        elif what < 11:
+            text = walk_cases.damaged(random_listed(chance), chance)
+        elif what < 13:
+            text = walk_cases.random_table(chance)
+        elif what < 15:
+            text = walk_cases.chained_table(chance)
+        elif k % 5 == 0:
+            text = walk_cases.large_table(chance)
+        else:
+            # a table whose header or rows are hurt, or which is cut
+            text = bytearray(walk_cases.random_table(chance))
+            if chance.random() < 0.3:
+                text = text[:chance.randrange(len(text))]
+            else:
+                text[chance.randrange(44)] ^= 1 << chance.randrange(8)
+        yield bytes(text)
+
+
+# What a listing refuses, in its own words.
+REFUSALS = re.compile("table refused 21|stopped [0-9]+|name refused [0-9]+|value refused [0-9]+|value parts [0-9]+ refused [0-9]+")
+
+
+def refusals(listing):
+    return REFUSALS.findall(listing)
+
+
+def without_number(refusal):
+    """A refusal of parts, whatever the number of parts before it."""
+    return re.sub("parts [0-9]+", "parts", refusal)
+
+
+def missing(case, listing):
+    """The lines by hand that a listing lacks."""
+    lines = listing.decode("ascii").split("\n")[:-1]
+    rest = iter(lines)
+    return [line for line in case.has if line not in rest] + [case.last] * (lines[-1:] != [case.last])
 
 
 def cases():
