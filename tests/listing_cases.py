@@ -240,7 +240,8 @@ def parts():
                "the size is the first part's; the third entry has another instance", "end reads 12",
                (line + "2 size 1", good, "part 42 80 5 144 0", "attr 42 56 128 24 2 name 0 0 value resident 80 0"))
     yield Case("parts-type", of(list_of(to(), to(OTHER, ty=0x90)), others=[[stream(), stream(ty=0x90)]]),
-               "the instance agrees and the type is another known one", "end reads 12", (line + "1 size 4000", good, "attr 41 120 144 64 1 name 0 0 value parts 1 size 4000", "part 41 120 0 184 0"))
+               "the instance agrees and the type is another known one", "end reads 12",
+               (line + "1 size 4000", good, "attr 41 120 144 64 1 name 0 0 value parts 1 size 4000", "part 41 120 0 184 0"))
     yield Case("parts-unknown", of(list_of(to(), to(THIRD, 2, ty=0x81)), others=[[stream()]]),
                "an unknown type with another instance ends the parts; the walk stops", "stopped 6 reads 7", (line + "1 size 4000", good))
     yield Case("parts-base", of(list_of(to(), to(BASE), to(THIRD)), stream(lowest=3), others=[[stream()], [stream(lowest=6)]]),
@@ -304,18 +305,21 @@ def most():
     others = {OTHER + k: record(4096, *held) for k, held in enumerate(others)}
     yield Case("parts-156", table({BASE: bytes(r), **others}), "as many parts as fit at all", "end reads 548", (
         "record 40 size 4096", "attr 41 56 128 64 1 name 0 0 value parts 156 size 4000", "part 41 56 1 120 0", "part 42 80 2 144 0"))
-    # Lengths of four digits, names of three, record numbers of fifteen, VCNs and sizes of twenty.
+    # Lengths of four digits, names of three, record numbers of fifteen, VCNs and sizes of twenty. The longest line of all has
+    # a name refused.
     long = {
         NUMBER_MOST - 2: [bare(0x10, 1000), bytes(984), stream(65535, 1100, 100, FIELD_MOST, FIELD_MOST, 0xFFFFFFFE, 255, 590),
+                          stream(65535, 1100, 100, FIELD_MOST, FIELD_MOST, 0xFFFFFFFE, 255, 1100),
                           list_of(to(NUMBER_MOST - 1, 65535, 0x100), to(NUMBER_MOST, 65535, 0x100))],
         NUMBER_MOST - 1: [bare(0x10, 1000), bytes(984), stream(65535, 2100, 1000, FIELD_MOST, FIELD_MOST, 0x100, 255, 1590)],
         NUMBER_MOST: [bare(0x10, 1000), bytes(984), stream(65535, 2100, 1000, FIELD_MOST - 1, 5, 0x100, 255, 1590)],
     }
-    # the base's three attributes; the walk's entry and two attributes; two parts of 3 reads; one entry passed over
+    # the base's four attributes; the walk's entry and two attributes; two parts of 3 reads; one entry passed over
     text = table({n: record(4096, *held) for n, held in long.items()}, NUMBER_MOST - 2)
-    yield Case("long-lines", text, "the longest numbers of each field", "end reads 13", (
+    yield Case("long-lines", text, "the longest numbers of each field, and the longest lines", "end reads 14", (
         "record 281474976710653 size 4096",
         "attr 281474976710653 1056 4294967294 1100 65535 name 1646 510 value runs 1156 1000 size 18446744073709551615",
+        "attr 281474976710653 2156 4294967294 1100 65535 name refused 8 value runs 2256 1000 size 18446744073709551615",
         "attr 281474976710654 1056 256 2100 65535 name 2646 510 value parts 2 size 18446744073709551615",
         "part 281474976710654 1056 18446744073709551615 2056 1100",
         "part 281474976710655 1056 18446744073709551614 2056 1100"))
@@ -323,7 +327,7 @@ def most():
     reads = 1 + 58 + 35 * 58 + 34
     yield Case("records-64", records_64(), "64 records of 1,024 bytes, lying over each other's ends", "end reads %d" % reads, (
         "record 0 size 1024", "attr 3 952 128 64 1 name 0 0 value parts 35 size 4000", "part 63 952 0 1016 0"))
-    # 250 attributes of 16 bytes in front of the one sought, and again in each part
+    # 248 attributes of 16 bytes in front of the one sought, and again in each part
     lot = record(4096, *[bare(0x10, 16)] * 248, stream())
     yield Case("reads", table({BASE: record(4096, list_of(*[to()] * 154)), OTHER: lot}), "parts that are each found behind 248 attributes",
                "end reads %d" % (1 + 1 + 249 + 154 * 250 + 153), ("attr 41 4024 128 64 1 name 0 0 value parts 154 size 4000",))
