@@ -76,6 +76,7 @@ def one_file():
     example = os.path.join(ROOT, "example", "springs.tab")
     expected = listing_reading.listing(read(example))
     assert b" value parts 3 size " in expected and expected.count(b"\npart ") == 3
+    assert b"".join(b"    " + line + b"\n" for line in expected.split(b"\n")[:-1]) in read(ROOT, "example", "README.md")
     same(run(), 0, expected, "")
     same(run("--"), 0, expected, "")
     same(run(example), 0, expected, "")
