@@ -30,12 +30,8 @@ COLLECT, WITHIN, WALK = KINDS = range(3)
 SEED = 20240703
 DAMAGED, RANDOM, STREAMS, CHAINED, LARGE = 5_000, 5_000, 12_000, 3_000, 40
 
-# Whether the program answers for the form with a lent list, which takes a room.
-with open(os.path.join(ROOT, "crates.txt"), encoding="utf-8") as crates:
-    LENT = any(line.startswith("ask_parts:") and "lent" in line.split() for line in crates)
-
-# What parts can refuse by behind the opening checks, for the first part and for a later one. Room for 157 is never too little.
-REFUSALS = (2, 3, 4, 5, 6, 7, 12, 14, 15, 16, 17, 18, 19) + ((20,) if LENT else ())
+# What parts can refuse by behind the opening checks, for the first part and for a later one. Room for 157 is never too little: 20 comes from lent lists alone.
+REFUSALS = (2, 3, 4, 5, 6, 7, 12, 14, 15, 16, 17, 18, 19, 20)
 
 
 class Question(NamedTuple):
@@ -104,17 +100,13 @@ class Test(asking.Asker):
     def put_both(self, record_, table_, rest, number=40, rooms=()):
         """The parts with room for all of them, and with these rooms."""
         self.put(COLLECT, record_, table_, number=number, rest=rest)
-        for room in rooms if LENT else ():
+        for room in rooms:
             self.put(WITHIN, record_, table_, number=number, rest=rest, room=room)
 
     def case(self, name, q, parts, end, reads):
         """An answer that follows from the document by hand. A class of cases is told by its name."""
         answer = "parts %d %s reads %d" % (len(parts), end, reads)
         answer += "".join(" part %d %d %d %d %d %d %d" % part for part in parts) + " unchanged 157"
-        if q.kind == WITHIN and not LENT:
-            # the second reading is still held to the document
-            assert self.expected(q) == answer, (name, self.expected(q), answer)
-            return
         self.put_literal_question(answer, q)
         self.classes[name] += 1
 
@@ -651,14 +643,12 @@ def sample(test):
     good = [e for e, _, _ in test.GOOD]
     r, t, rest = test.listed([*good, entry(0x80, 40, 2), entry(0x80, 41, 2)], {n: test.FILES[n] for n in (41, 42)})
     whole, u, span = test.listed([*good, entry(0x80, 49, 3)], {n: test.FILES[n] for n in (41, 42, 49)})
-    questions = [
+    return [
         Question(COLLECT, whole, u, rest=span), Question(COLLECT, r, t, rest=rest), Question(COLLECT, r, t, rest=Rest(False, 9, 3)),
         Question(COLLECT, r, t, rest=Rest(True, 9, 513)), Question(COLLECT, r[:64], t, rest=rest), Question(COLLECT, r, t[:19], rest=rest),
         Question(WALK, r, t), Question(WALK, whole, u, on=1), Question(WALK, whole, u, on=0), Question(WALK, r, t[:19], on=2),
+        *(Question(WITHIN, whole, u, rest=span, room=room) for room in (0, 1, 2, 157)),
     ]
-    if LENT:
-        questions += [Question(WITHIN, whole, u, rest=span, room=room) for room in (0, 1, 2, 157)]
-    return questions
 
 
 def cut_questions(test):
@@ -683,10 +673,9 @@ CLASSES = (
     "22 at the opening, past the record", "21 at the opening", "1 at the opening", "2 at the opening", "inside another attribute",
     "at the record's end", "under 26 bytes", "parts of a real volume", *("no. %d of the differences" % number for number in range(20, 25)),
     *("%d in the %s part" % (number, part) for number in REFUSALS if number != 20 for part in ("first", "later")),
-) + ((
     "room 0", "room enough", "room one short", "20 before the lookup", "6 before 20", "14 before 20", "15 before 20", "16 before 20",
     "the end before 20", "157 parts, less room", "157 parts, room 157",
-) if LENT else ())
+)
 
 # How often parts ended by what and where, damaged and random tables included: each at least so often.
 OFTEN = 20
@@ -703,7 +692,7 @@ def finish(test):
     missing = [name for name in CLASSES if not test.classes[name]]
     missing += ["%s %s" % (w, end) for w in ("first", "later") for end in (*REFUSALS, "whole") if test.endings[w, end] < OFTEN]
     missing += ["opening %s" % end for end in (1, 2, 21, 22) if test.endings["opening", end] < OFTEN]
-    missing += [call for kind, call in enumerate(test.CALLS) if not test.asked[kind] and (LENT or kind != WITHIN)]
+    missing += [call for kind, call in enumerate(test.CALLS) if not test.asked[kind]]
     if missing:
         sys.exit("nothing of these was asked, or too little: %s" % ", ".join(missing))
 

@@ -142,6 +142,7 @@ fn put_line<'a>(out: &mut [u8], base: &'a [u8], t: &'a [u8], q: Question) -> usi
     let list = q.list;
     match kind {
         0 => answer::put_collected(out, parts::collect(base, number, t, list)),
+        1 => answer::put_collected(out, lent::list_within(base, number, t, list, q.room)),
         _ => 0,
     }
 }

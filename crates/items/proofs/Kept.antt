@@ -11,13 +11,14 @@ use Rattle.fields.specs.Answer.{Answer, gives, ends, refuses}
 use Rattle.fields.specs.Walk.{stop, go}
 use Rattle.fields.specs.declared.RecordNumber.{RecordNumber}
 use Rattle.fields.proofs.Cases.{yes, no}
-use Rattle.fields.proofs.Answers.{ended-given, refused-given}
+use Rattle.fields.proofs.Answers.{ended-given, refused-given, the-given}
 use Rattle.fields.proofs.Walks.{Falls, on-stop, on-go, walked, stop-go, go-stop, the-stop, the-go}
 use Rattle.items.specs.State.{Lies}
 use Rattle.items.specs.Turn.{Small, passes, answers, entryTurn, rawTurn, smallStep}
 use Rattle.items.specs.Items.{Left, leaves, Going, going, never, measure, turnAfter, turn, nextFrom, nextIn}
 use Rattle.items.specs.declared.State.{State}
 use Rattle.items.specs.declared.Item.{Item}
+use Rattle.items.proofs.Rests.{Rested, rested}
 use Rattle.items.proofs.Falls.{Sinks, Stays, Fair, stays, fair}
 
 module _ (s : List ℕ) (n : RecordNumber) (look : RecordNumber → Option (List ℕ)) where
@@ -122,6 +123,24 @@ module _ (s : List ℕ) (n : RecordNumber) (look : RecordNumber → Option (List
         walked (λ x. measure s (x .at)) (turn s n look) never (λ g. Held (g .at)) (λ l. Held (l .left)) (falls s n look)
         (λ g h y e. held-on g h (smallStep s n look (g .at)) (fair s n look (g .at)) y e)
         (λ g l y e. held-at g (smallStep s n look (g .at)) (fair s n look (g .at)) y l e) (going w 0) lies
+
+    -- and so does the list of an item that is given
+    abbrev Listed : Left → Type 0
+    Listed l = (i : Item) → l .answer ≡ gives i → Lies (length s) (i .rest)
+
+    listed-at : (g : Going) (x : Small) → Rested s (g .at) x → Held (g .at) → (l : Left) → turnAfter s n look (g .reads) x ≡ stop l → Listed l
+    unfolding turnAfter
+    listed-at g (passes v k) f y l e = absurd (go-stop e)
+    listed-at g (answers (gives i) v k) f y l e = subst Listed (the-stop e) (λ j a. subst (λ (z : Item). Lies (length s) (z .rest)) (the-given a) (f y))
+    listed-at g (answers ends v k) f y l e = subst Listed (the-stop e) (λ j a. absurd (ended-given a))
+    listed-at g (answers (refuses r) v k) f y l e = subst Listed (the-stop e) (λ j a. absurd (refused-given a))
+
+    pub item-lies : Listed (nextIn s n look w)
+    unfolding nextIn turn
+    item-lies =
+        walked (λ x. measure s (x .at)) (turn s n look) never (λ g. Held (g .at)) Listed (falls s n look)
+        (λ g h y e. held-on g h (smallStep s n look (g .at)) (fair s n look (g .at)) y e)
+        (λ g l y e. listed-at g (smallStep s n look (g .at)) (rested s n look (g .at)) y l e) (going w 0) lies
 
 -- where the list lies inside a record of at most 4,096 bytes, the measure is small
 pub measure-small : (s : List ℕ) (w : State) → length s ≤ 4096 → Lies (length s) (w .list) → measure s w ≤ 12289

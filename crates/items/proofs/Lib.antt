@@ -2,6 +2,7 @@
 -- that each contract settles its result; and the cases on both sides of each line.
 pub mod Turns
 pub mod Falls
+pub mod Rests
 pub mod Kept
 pub mod Firsts
 pub mod Settled

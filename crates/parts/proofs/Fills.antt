@@ -21,9 +21,15 @@ use Rattle.items.specs.declared.Key.{Key}
 use Rattle.items.proofs.Turns.{entry-inside}
 use Rattle.parts.specs.Join.{judgePart, keyFor}
 use Rattle.parts.specs.Part.{partOf}
-use Rattle.parts.specs.Parts.{Stepped, lists, stops, cursor, cursorPast, stepAfter, stepPart, stepJoined, stepKeyed, stepEntered, stepIn, Listing, listing, partsAfter, partsRun, partsFrom, filled}
+use Rattle.parts.specs.Parts.{Stepped, lists, stops, toldKind, toldTurn, cursor, cursorPast, stepAfter, stepPart, stepJoined, stepKeyed, stepEntered, stepIn, Listing, listing, partsAfter, partsRun, partsFrom, filled}
 use Rattle.parts.specs.declared.Part.{Part}
 use Rattle.parts.specs.declared.Cursor.{Cursor}
+use Rattle.parts.specs.declared.PartKind.{PartKind}
+use Rattle.parts.specs.declared.PartTurn.{PartTurn}
+
+-- a step, told by what the match on its kind found
+pub made : (t : PartTurn) {k : PartKind} → t .kind ≡ k → toldTurn t ≡ toldKind k (t .next) (t .reads)
+made t e = ap (λ (k : PartKind). toldKind k (t .next) (t .reads)) e
 
 -- what is left of a cursor's list
 abbrev pub left : Cursor → ℕ

@@ -1,9 +1,7 @@
 -- The parts listed so far stand in front of the array, and from the cursor on the rest of them follows.
-use Rattle.parts.specs.Parts.{cursor, toldKind, toldTurn, Listing, filled, blankParts}
-use Rattle.parts.specs.declared.PartTurn.{PartTurn}
-use Rattle.parts.specs.declared.PartKind.{PartKind}
+use Rattle.parts.specs.Parts.{cursor, Listing, filled, blankParts}
 use lib.ListN.{replicate, length, take}
-use Rattle.parts.proofs.Fills.{left, Filling, begun, stopped, filled-so, more, goes}
+use Rattle.parts.proofs.Fills.{left, Filling, begun, stopped, filled-so, more, goes, made}
 use Rattle.items.proofs.Turns.{few}
 use Rattle.fields.proofs.Cases.{same}
 use mathlib.Core.Path.{_≡_, refl, sym, ap, _∙_, subst}
@@ -21,10 +19,6 @@ Inv-loop base number t h parts₀ count₀ reads₀ c₀ parts count reads c = (
 
 abbrev μ-loop : tie.MeasureT-loop
 μ-loop base number t h parts₀ count₀ reads₀ c₀ parts count reads c = left c
-
--- the step that the loop made, and what it was
-made : (t : PartTurn) {k : PartKind} → t .kind ≡ k → toldTurn t ≡ toldKind k (t .next) (t .reads)
-made t e = ap (λ (k : PartKind). toldKind k (t .next) (t .reads)) e
 
 blank-length : length blankParts ≡ 157
 unfolding blankParts

@@ -1,0 +1,85 @@
+-- What is still to come of a listing, call by call: each call of the walk gives its lines, more calls change nothing, and part lines come from the numbers.
+use Prim.Native.Nat.{ℕ, zero, suc, _+_, _-_, _*_, _<_, _≤_}
+use native.Mathlib.Omega.{arith}
+use native.Mathlib.Nat.{not-suc-le-zero}
+use mathlib.Core.Path.{_≡_, refl, sym, ap, _∙_, subst}
+use mathlib.Core.List.{List, [], _∷_, _++_, map}
+use mathlib.Core.Option.{Option}
+use lib.ListN.{length, take, drop}
+use lib.Seq.{take-take, take-add, take-at, drop-at, drop-drop}
+use Rattle.fields.specs.Answer.{Answer, gives, ends, refuses}
+use Rattle.fields.specs.declared.RecordNumber.{RecordNumber}
+use Rattle.fields.specs.declared.Refusal.{Refusal}
+use Rattle.items.specs.Items.{Left, leaves, measure, nextIn, toldNext}
+use Rattle.items.specs.Turn.{toldItem}
+use Rattle.items.specs.declared.State.{State}
+use Rattle.items.specs.declared.Item.{Item}
+use Rattle.items.specs.declared.ItemStep.{ItemStep}
+use Rattle.items.specs.declared.Walked.{Walked}
+use Rattle.items.proofs.Kept.{next-sinks}
+use Rattle.parts.specs.declared.Part.{Part}
+use Rattle.lines.specs.Lines.{Text, partNumbers, numbersLine, partLine, endLine, stoppedLine}
+use Rattle.lines.specs.Listing.{itemLine, itemLines, partsFor, linesAfter, linesNext, linesRun, walkLines}
+use Rattle.lines.specs.Making.{allNumbers, numberLines}
+
+-- the lines of parts are made from their numbers
+number-line : (p : Part) (ns rest : List ℕ) (k : ℕ) → take (5 * suc k) ns ≡ partNumbers p ++ rest → (take 5 ns ≡ partNumbers p) × (take (5 * k) (drop 5 ns) ≡ rest)
+unfolding partNumbers
+number-line p ns rest k e =
+    let a : take 5 ns ≡ partNumbers p = sym (take-take 5 (5 * suc k) ns (omega arith)) ∙ ap (take 5) e ∙ take-at (partNumbers p) rest 5 refl in
+    let m : 5 * suc k ≡ 5 + 5 * k = omega arith in (
+      a,
+      sym (drop-at (take 5 ns) (take (5 * k) (drop 5 ns)) 5 (ap length a)) ∙ ap (drop 5) (sym (take-add 5 (5 * k) ns) ∙ ap (λ (j : ℕ). take j ns) (sym m) ∙ e)
+          ∙ drop-at (partNumbers p) rest 5 refl,
+    )
+
+pub number-lines : (ps : List Part) (ns : List ℕ) → take (5 * length ps) ns ≡ allNumbers ps → numberLines (length ps) ns ≡ map partLine ps
+unfolding numberLines allNumbers partLine
+number-lines [] ns e = refl
+number-lines (p ∷ ps) ns e =
+    let w = number-line p ns (allNumbers ps) (length ps) e in
+    ap (λ (x : List ℕ). numbersLine x ∷ numberLines (length ps) (drop 5 ns)) (w .0) ∙ ap (λ (x : List Text). partLine p ∷ x) (number-lines ps (drop 5 ns) (w .1))
+
+module _ (s : List ℕ) (n : RecordNumber) (look : RecordNumber → Option (List ℕ)) where
+  -- more calls change nothing
+  run-after : (f g k : ℕ) (w : State) (a : Answer Item) → ((i : Item) → a ≡ gives i → (k : ℕ) → linesRun s n look f k w ≡ linesRun s n look g k w)
+      → linesAfter s n look (linesRun s n look f) k w a ≡ linesAfter s n look (linesRun s n look g) k w a
+  unfolding linesAfter
+  run-after f g k w (gives i) h = ap (λ (x : List Text). itemLines s n look i ++ x) (h i refl _)
+  run-after f g k w ends h = refl
+  run-after f g k w (refuses r) h = refl
+
+  pub enough : (f g k : ℕ) (w : State) → measure s w < f → measure s w < g → linesRun s n look f k w ≡ linesRun s n look g k w
+  unfolding linesRun linesNext
+  enough zero g k w a b = absurd (not-suc-le-zero a)
+  enough (suc f) zero k w a b = absurd (not-suc-le-zero b)
+  enough (suc f) (suc g) k w a b =
+      run-after f g _ _ (nextIn s n look w .answer) (λ i e j. let d = next-sinks s n look w i e in enough f g j (nextIn s n look w .left) (omega arith) (omega arith))
+
+  -- a call of the walk that answered with a
+  called : (k : ℕ) (w : State) (r : Walked) {t : ItemStep} → toldNext r ≡ nextIn s n look w → r .answer ≡ t
+      → walkLines s n look k w ≡ linesAfter s n look (linesRun s n look (measure s w)) (k + r .reads) (r .left) (toldItem t)
+  unfolding walkLines linesRun linesNext
+  called k w r e t =
+      ap (λ (l : Left). linesAfter s n look (linesRun s n look (measure s w)) (k + l .reads) (l .left) (l .answer)) (sym e)
+      ∙ ap (λ (x : ItemStep). linesAfter s n look (linesRun s n look (measure s w)) (k + r .reads) (r .left) (toldItem x)) t
+
+  pub sinks : (w : State) (r : Walked) (i : Item) → toldNext r ≡ nextIn s n look w → toldItem (r .answer) ≡ gives i → measure s (r .left) < measure s w
+  sinks w r i e t = subst (λ (l : Left). l .answer ≡ gives i → measure s (l .left) < measure s w) (sym e) (next-sinks s n look w i) t
+
+  pub walk-ends : (k : ℕ) (w : State) (r : Walked) (t : ItemStep) → toldNext r ≡ nextIn s n look w → r .answer ≡ t → toldItem t ≡ ends → walkLines s n look k w ≡ endLine (k + r .reads) ∷ []
+  unfolding linesAfter
+  walk-ends k w r t e q z = called k w r e q ∙ ap (λ (a : Answer Item). linesAfter s n look (linesRun s n look (measure s w)) (k + r .reads) (r .left) a) z
+
+  pub walk-stops : (k : ℕ) (w : State) (r : Walked) (t : ItemStep) (x : Refusal) → toldNext r ≡ nextIn s n look w → r .answer ≡ t → toldItem t ≡ refuses x
+      → walkLines s n look k w ≡ stoppedLine (x .number) (k + r .reads) ∷ []
+  unfolding linesAfter
+  walk-stops k w r t x e q z = called k w r e q ∙ ap (λ (a : Answer Item). linesAfter s n look (linesRun s n look (measure s w)) (k + r .reads) (r .left) a) z
+
+  pub walk-gives : (k : ℕ) (w : State) (r : Walked) (t : ItemStep) (i : Item) → toldNext r ≡ nextIn s n look w → r .answer ≡ t → toldItem t ≡ gives i
+      → walkLines s n look k w ≡ itemLine s n look i ∷ (map partLine (partsFor s n look i .parts) ++ walkLines s n look (k + r .reads + partsFor s n look i .reads) (r .left))
+  unfolding linesAfter itemLines walkLines
+  walk-gives k w r t i e q z =
+      let d = sinks w r i e (ap toldItem q ∙ z) in
+      called k w r e q ∙ ap (λ (a : Answer Item). linesAfter s n look (linesRun s n look (measure s w)) (k + r .reads) (r .left) a) z
+      ∙ ap (λ (x : List Text). itemLine s n look i ∷ (map partLine (partsFor s n look i .parts) ++ x)) (enough (measure s w) (suc (measure s (r .left))) _ (r .left) d (omega arith))

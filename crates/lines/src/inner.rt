@@ -1,0 +1,467 @@
+// The listing line by line, for callers that began it with `start` and lend it the same table throughout.
+use crate::Gathered;
+use crate::Making;
+use crate::Stage;
+use crate::Told;
+use crate::put;
+use fields::Opened;
+use fields::RecordNumber;
+use items::Item;
+use items::ItemStep;
+use items::Rest;
+use items::State;
+use parts::Cursor;
+use parts::Ended;
+use parts::Part;
+use parts::PartKind;
+use raw::Spanned;
+use raw::Valued;
+use table::Numbers;
+use table::Placed;
+use table::RowFound;
+use table::Tested;
+ghost use mathlib.Core.Path.{_≡_};
+ghost use mathlib.Core.List.{List, [], _∷_, _++_};
+ghost use Prim.Native.Nat.{ℕ, _+_, _*_, _≤_, _<_};
+ghost use lib.Dec.{eqb};
+ghost use lib.ListN.{length, take, drop};
+ghost use Rattle.fields.specs.Pick.{pick};
+ghost use Rattle.fields.specs.Answer.{gives};
+ghost use Rattle.fields.specs.Open.{openIn, toldOpened};
+ghost use Rattle.raw.specs.Span.{toldSpanned};
+ghost use Rattle.raw.specs.Value.{toldValued};
+ghost use Rattle.table.specs.Check.{tableOf};
+ghost use Rattle.table.specs.Held.{recordOf, baseOf};
+ghost use Rattle.items.specs.State.{Ready, Lies, state, noList, noKey};
+ghost use Rattle.parts.specs.Parts.{partsFrom, partsIn};
+ghost use Rattle.text.specs.Put.{Put};
+ghost use Rattle.lines.specs.Lines.{partNumbers, numbersLine, recordLine, refusedLine};
+ghost use Rattle.lines.specs.Listing.{nameFor, valueFor, partsFor, itemLine, walkLines, baseLines, listingOf};
+ghost use Rattle.lines.specs.Making.{Gathers, toComeAt, toCome, Based, Going, Sound, Tells, Pages, pageOf, ending, showing, noNumbers, stageOf, beginning};
+ghost use Rattle.lines.specs.declared.Stage.the-variants.{Items};
+
+// The name and the value of an item.
+struct Contents {
+    name: Spanned,
+    value: Valued,
+}
+
+// Both from one look at the item's record.
+fn contents_of<'a>(
+    base: &'a [u8],
+    number: RecordNumber,
+    t: &'a [u8],
+    h: Numbers,
+    i: Item,
+) -> Contents
+    requires { ⌜ Ready (now base) (now t) h ⌝ }
+    ensures name { λ r. ⌜ toldSpanned (r .name) ≡ nameFor (now (base .entry)) number (recordOf (now (t .entry))) i ⌝ }
+    ensures value { λ r. ⌜ toldValued (r .value) ≡ valueFor (now (base .entry)) number (recordOf (now (t .entry))) i ⌝ }
+{
+    let file = i.file;
+    let attribute = i.attribute;
+    let at = attribute.offset;
+    let p = table::inner::lookup(base, number, t, h, file, 0);
+    match p {
+        Placed::Refused(r) => {
+            let name = Spanned::Refused(r);
+            let value = Valued::Refused(r);
+            Contents { name, value }
+        }
+        Placed::At(q) => {
+            let s = table::inner::part(base, t, h, q);
+            let name = raw::name(s, file, at);
+            let value = raw::value(s, file, at);
+            Contents { name, value }
+        }
+    }
+}
+
+// The five numbers of a part's line, behind those of the k parts before it.
+fn keep(numbers: &mut [u64], k: usize, p: Part)
+    requires { ⌜ 5 * k + 5 ≤ length (now numbers) ⌝ }
+    ensures { λ _. ⌜ (take (5 * (k + 1)) (now (numbers .exit)) ≡ take (5 * k) (now (numbers .entry)) ++ partNumbers p) × (length (now (numbers .exit)) ≡ length (now (numbers .entry))) ⌝ }
+{
+    let at = 5 * k;
+    let file = p.file;
+    let lowest = p.lowest;
+    let runs = p.runs;
+    numbers[at] = file.0;
+    numbers[at + 1] = p.offset as u64;
+    numbers[at + 2] = lowest.0;
+    numbers[at + 3] = runs.from as u64;
+    numbers[at + 4] = runs.bytes as u64;
+}
+
+// The size of the first part, at the first part.
+fn size_of(k: usize, size: u64, p: Part) -> u64
+    ensures { λ r. ⌜ r ≡ pick (eqb k 0) (p .size) size ⌝ }
+{
+    if k == 0 {
+        return p.size;
+    }
+    size
+}
+
+// The parts from an item's list on, found once: their numbers go to the lent ones, for the lines to come.
+fn gather<'a>(
+    base: &'a [u8],
+    number: RecordNumber,
+    t: &'a [u8],
+    h: Numbers,
+    l: Rest,
+    numbers: &mut [u64],
+) -> Gathered
+    requires { ⌜ Ready (now base) (now t) h ⌝ }
+    requires { ⌜ (l .from ≤ l .to) × (l .to ≤ length (now base)) ⌝ }
+    requires { ⌜ 785 ≤ length (now numbers) ⌝ }
+    ensures { λ r. ⌜ Gathers (partsFrom (now (base .entry)) number (recordOf (now (t .entry))) 157 l) (now (numbers .exit)) r ⌝ }
+    ensures { λ r. ⌜ (length (now (numbers .exit)) ≡ length (now (numbers .entry))) × ((r .reads ≤ 1052929) × (r .count ≤ 157)) ⌝ }
+{
+    let mut count: usize = 0;
+    let mut size: u64 = 0;
+    let mut reads: u64 = 0;
+    let key = items::inner::no_key();
+    let mut c = Cursor { list: l, key };
+    let answer = loop {
+        let m = parts::inner::step(base, number, t, h, 157, count, c);
+        let next = m.next;
+        let kind = m.kind;
+        reads += m.reads;
+        match kind {
+            PartKind::Stops(a) => {
+                break a;
+            }
+            PartKind::Lists(p) => {
+                keep(numbers, count, p);
+                size = size_of(count, size, p);
+                count += 1;
+                c = next;
+            }
+        }
+    };
+    Gathered {
+        count,
+        size,
+        answer,
+        reads,
+    }
+}
+
+// The parts of an item; without a list there are none.
+fn gathered<'a>(
+    base: &'a [u8],
+    number: RecordNumber,
+    t: &'a [u8],
+    h: Numbers,
+    l: Rest,
+    numbers: &mut [u64],
+) -> Gathered
+    requires { ⌜ Ready (now base) (now t) h ⌝ }
+    requires { ⌜ Lies (length (now base)) l ⌝ }
+    requires { ⌜ 785 ≤ length (now numbers) ⌝ }
+    ensures { λ r. ⌜ Gathers (partsIn (now (base .entry)) number (recordOf (now (t .entry))) 157 l) (now (numbers .exit)) r ⌝ }
+    ensures { λ r. ⌜ (length (now (numbers .exit)) ≡ length (now (numbers .entry))) × ((r .reads ≤ 1052929) × (r .count ≤ 157)) ⌝ }
+{
+    if l.is {
+        return gather(base, number, t, h, l, numbers);
+    }
+    let answer = Ended::Whole;
+    Gathered {
+        count: 0,
+        size: 0,
+        answer,
+        reads: 0,
+    }
+}
+
+// Where the line of an item ends, and its parts.
+struct Lined {
+    end: usize,
+    parts: Gathered,
+}
+
+fn item_line<'a>(
+    base: &'a [u8],
+    number: RecordNumber,
+    t: &'a [u8],
+    h: Numbers,
+    i: Item,
+    numbers: &mut [u64],
+    out: &mut [u8],
+    at: usize,
+) -> Lined
+    requires { ⌜ Ready (now base) (now t) h ⌝ }
+    requires { ⌜ Lies (length (now base)) (i .rest) ⌝ }
+    requires { ⌜ (785 ≤ length (now numbers)) × (at + 256 ≤ length (now out)) ⌝ }
+    ensures line { λ r. ⌜ Put (now (out .entry)) at (now (out .exit)) (r .end) (itemLine (now (base .entry)) number (recordOf (now (t .entry))) i) 256 ⌝ }
+    ensures parts { λ r. ⌜ Gathers (partsFor (now (base .entry)) number (recordOf (now (t .entry))) i) (now (numbers .exit)) (r .parts) ⌝ }
+    ensures few { λ r. ⌜ (length (now (numbers .exit)) ≡ length (now (numbers .entry))) × ((r .parts .reads ≤ 1052929) × (r .parts .count ≤ 157)) ⌝ }
+{
+    let rest = i.rest;
+    let parts = gathered(base, number, t, h, rest, numbers);
+    let v = contents_of(base, number, t, h, i);
+    let name = v.name;
+    let value = v.value;
+    let end = put::attr_line(out, at, i, name, parts, value);
+    Lined { end, parts }
+}
+
+// Where a listing stands that has told all its lines.
+fn done(h: Numbers, w: State, end: usize) -> Told
+    ensures { λ r. ⌜ r ≡ ending h w end ⌝ }
+{
+    let stage = Stage::Done;
+    let next = Making {
+        stage,
+        h,
+        walk: w,
+        reads: 0,
+        shown: 0,
+        count: 0,
+    };
+    Told {
+        next,
+        end,
+        more: true,
+    }
+}
+
+// The next item's line, or the last line: the walk goes on by one call.
+fn walk_line<'a>(
+    base: &'a [u8],
+    number: RecordNumber,
+    t: &'a [u8],
+    m: Making,
+    numbers: &mut [u64],
+    out: &mut [u8],
+    at: usize,
+) -> Told
+    requires { ⌜ Based (now t) (m .h) (now base) number ⌝ }
+    requires { ⌜ Going (now t) m ⌝ }
+    requires { ⌜ (785 ≤ length (now numbers)) × (at + 256 ≤ length (now out)) ⌝ }
+    ensures told { λ r. ⌜ Tells (walkLines (now (base .entry)) number (recordOf (now (t .entry))) (m .reads) (m .walk)) (toCome (now (t .entry)) (r .next) (now (numbers .exit))) (now (out .entry)) at (now (out .exit)) r ⌝ }
+    ensures sound { λ r. ⌜ Sound (now (t .entry)) (r .next) × (length (now (numbers .exit)) ≡ length (now (numbers .entry))) ⌝ }
+{
+    let h = m.h;
+    let n = items::inner::next(base, number, t, h, m.walk);
+    let reads = m.reads + n.reads;
+    let walk = n.left;
+    let a = n.answer;
+    match a {
+        ItemStep::End => {
+            let end = put::end_line(out, at, reads);
+            done(h, walk, end)
+        }
+        ItemStep::Refused(r) => {
+            let end = put::stopped_line(out, at, r.number, reads);
+            done(h, walk, end)
+        }
+        ItemStep::Given(i) => {
+            let l = item_line(base, number, t, h, i, numbers, out, at);
+            let parts = l.parts;
+            let stage = Stage::Items;
+            let next = Making {
+                stage,
+                h,
+                walk,
+                reads: reads + parts.reads,
+                shown: 0,
+                count: parts.count,
+            };
+            Told {
+                next,
+                end: l.end,
+                more: true,
+            }
+        }
+    }
+}
+
+// The line of the next part of the item before.
+fn part_line(m: Making, numbers: &mut [u64], out: &mut [u8], at: usize) -> Told
+    requires { ⌜ (m .shown < m .count) × (m .count ≤ 157) ⌝ }
+    requires { ⌜ (785 ≤ length (now numbers)) × (at + 256 ≤ length (now out)) ⌝ }
+    ensures { λ r. ⌜ Put (now (out .entry)) at (now (out .exit)) (r .end) (numbersLine (take 5 (drop (5 * m .shown) (now (numbers .entry))))) 256 ⌝ }
+    ensures { λ r. ⌜ (now (numbers .exit) ≡ now (numbers .entry)) × (r ≡ showing m (r .end)) ⌝ }
+{
+    let from = 5 * m.shown;
+    let to = from + 5;
+    let end = put::part_line(out, at, &numbers[from..to]);
+    let h = m.h;
+    let walk = m.walk;
+    let stage = Stage::Items;
+    let next = Making {
+        stage,
+        h,
+        walk,
+        reads: m.reads,
+        shown: m.shown + 1,
+        count: m.count,
+    };
+    Told {
+        next,
+        end,
+        more: true,
+    }
+}
+
+// Among its items: a part's line as long as there is one to come, then the walk goes on.
+fn items_line<'a>(t: &'a [u8], m: Making, numbers: &mut [u64], out: &mut [u8], at: usize) -> Told
+    requires { ⌜ Going (now t) m ⌝ }
+    requires { ⌜ (785 ≤ length (now numbers)) × (at + 256 ≤ length (now out)) ⌝ }
+    ensures told { λ r. ⌜ Tells (toComeAt (now (t .entry)) m (now (numbers .entry)) Items) (toCome (now (t .entry)) (r .next) (now (numbers .exit))) (now (out .entry)) at (now (out .exit)) r ⌝ }
+    ensures sound { λ r. ⌜ Sound (now (t .entry)) (r .next) × (length (now (numbers .exit)) ≡ length (now (numbers .entry))) ⌝ }
+{
+    if m.shown < m.count {
+        return part_line(m, numbers, out, at);
+    }
+    let h = m.h;
+    let row = h.base as usize;
+    let base = table::inner::record_at(t, h, row);
+    let r = table::inner::row_at(t, h, row);
+    walk_line(base, r.number, t, m, numbers, out, at)
+}
+
+// The line of a table that is malformed or has no base row.
+fn refused(out: &mut [u8], at: usize) -> Told
+    requires { ⌜ at + 256 ≤ length (now out) ⌝ }
+    ensures { λ r. ⌜ Put (now (out .entry)) at (now (out .exit)) (r .end) refusedLine 256 ⌝ }
+    ensures { λ r. ⌜ r ≡ ending noNumbers (state 0 noList noKey) (r .end) ⌝ }
+{
+    let end = put::refused_line(out, at);
+    let h = Numbers {
+        count: 0,
+        size: 0,
+        directory: 0,
+        records: 0,
+        base: 0,
+    };
+    let w = State {
+        raw: 0,
+        list: items::inner::no_list(),
+        key: items::inner::no_key(),
+    };
+    done(h, w, end)
+}
+
+// Whether the walk of a base record begins, or the listing stops by an opening check.
+fn stage_of(o: Opened) -> Stage
+    ensures { λ r. ⌜ r ≡ stageOf (toldOpened o) ⌝ }
+{
+    match o {
+        Opened::Refused(r) => Stage::Stopped(r.number),
+        Opened::Passed => Stage::Items,
+    }
+}
+
+// The first line of a base record.
+fn record_line(base: &[u8], number: RecordNumber, h: Numbers, out: &mut [u8], at: usize) -> Told
+    requires { ⌜ at + 256 ≤ length (now out) ⌝ }
+    ensures { λ r. ⌜ Put (now (out .entry)) at (now (out .exit)) (r .end) (recordLine number (length (now (base .entry)))) 256 ⌝ }
+    ensures { λ r. ⌜ r ≡ beginning h (now (base .entry)) (openIn (now (base .entry)) number (h .size)) (r .end) ⌝ }
+{
+    let end = put::record_line(out, at, number, base.len());
+    let o = fields::opening_in(base, number, h.size as usize);
+    let stage = stage_of(o);
+    let walk = items::fresh(base);
+    let next = Making {
+        stage,
+        h,
+        walk,
+        reads: 0,
+        shown: 0,
+        count: 0,
+    };
+    Told {
+        next,
+        end,
+        more: true,
+    }
+}
+
+// The first line of a table that passed its check.
+fn based_line<'a>(t: &'a [u8], h: Numbers, out: &mut [u8], at: usize) -> Told
+    requires { ⌜ tableOf (now t) ≡ gives h ⌝ }
+    requires { ⌜ at + 256 ≤ length (now out) ⌝ }
+    ensures told { λ r. ⌜ ((ns : List ℕ) → Tells (baseLines (now (t .entry)) h (baseOf (now (t .entry)))) (toCome (now (t .entry)) (r .next) ns) (now (out .entry)) at (now (out .exit)) r) ⌝ }
+    ensures sound { λ r. ⌜ Sound (now (t .entry)) (r .next) ⌝ }
+{
+    let b = table::base_row(h);
+    match b {
+        RowFound::Missing => refused(out, at),
+        RowFound::At(i) => {
+            let base = table::inner::record_at(t, h, i);
+            let r = table::inner::row_at(t, h, i);
+            record_line(base, r.number, h, out, at)
+        }
+    }
+}
+
+// The first line of a listing: the table is checked here, and nowhere else.
+fn first_line<'a>(t: &'a [u8], out: &mut [u8], at: usize) -> Told
+    requires { ⌜ at + 256 ≤ length (now out) ⌝ }
+    ensures told { λ r. ⌜ ((ns : List ℕ) → Tells (listingOf (now (t .entry))) (toCome (now (t .entry)) (r .next) ns) (now (out .entry)) at (now (out .exit)) r) ⌝ }
+    ensures sound { λ r. ⌜ Sound (now (t .entry)) (r .next) ⌝ }
+{
+    if 65536 < t.len() {
+        return refused(out, at);
+    }
+    let a = table::check(t);
+    match a {
+        Tested::Refused(_) => refused(out, at),
+        Tested::Sound(h) => based_line(t, h, out, at),
+    }
+}
+
+// One line: it is put behind the text so far. The numbers are lent for the parts of an item, from one call to the next.
+pub fn next<'a>(t: &'a [u8], m: Making, numbers: &mut [u64], out: &mut [u8], at: usize) -> Told
+    requires { ⌜ Sound (now t) m ⌝ }
+    requires { ⌜ (785 ≤ length (now numbers)) × (at + 256 ≤ length (now out)) ⌝ }
+    ensures told { λ r. ⌜ Tells (toCome (now (t .entry)) m (now (numbers .entry))) (toCome (now (t .entry)) (r .next) (now (numbers .exit))) (now (out .entry)) at (now (out .exit)) r ⌝ }
+    ensures sound { λ r. ⌜ Sound (now (t .entry)) (r .next) × (length (now (numbers .exit)) ≡ length (now (numbers .entry))) ⌝ }
+{
+    let stage = m.stage;
+    match stage {
+        Stage::Start => first_line(t, out, at),
+        Stage::Items => items_line(t, m, numbers, out, at),
+        Stage::Stopped(n) => {
+            let h = m.h;
+            let walk = m.walk;
+            let end = put::stopped_line(out, at, n, m.reads);
+            done(h, walk, end)
+        }
+        Stage::Done => Told {
+            next: m,
+            end: at,
+            more: false,
+        },
+    }
+}
+
+// Line after line from the front of a buffer, as long as there is room for the longest; `more` says that the room ended before the lines did.
+pub fn fill<'a>(t: &'a [u8], m: Making, numbers: &mut [u64], out: &mut [u8]) -> Told
+    requires { ⌜ Sound (now t) m ⌝ }
+    requires { ⌜ 785 ≤ length (now numbers) ⌝ }
+    ensures told { λ r. ⌜ Pages (pageOf (length (now (out .entry))) (toCome (now (t .entry)) m (now (numbers .entry)))) (toCome (now (t .entry)) (r .next) (now (numbers .exit))) (now (out .entry)) (now (out .exit)) r ⌝ }
+    ensures sound { λ r. ⌜ Sound (now (t .entry)) (r .next) × (length (now (numbers .exit)) ≡ length (now (numbers .entry))) ⌝ }
+{
+    let mut here = m;
+    let mut at: usize = 0;
+    loop {
+        if out.len() - at < 256 {
+            return Told {
+                next: here,
+                end: at,
+                more: true,
+            };
+        }
+        let r = next(t, here, numbers, out, at);
+        if r.more {
+            here = r.next;
+            at = r.end;
+        } else {
+            return r;
+        }
+    }
+}
