@@ -18,7 +18,7 @@ use Rattle.items.specs.declared.ItemStep.{ItemStep}
 use Rattle.items.specs.declared.Walked.{Walked}
 use Rattle.items.proofs.Kept.{next-sinks}
 use Rattle.parts.specs.declared.Part.{Part}
-use Rattle.lines.specs.Lines.{Text, partNumbers, numbersLine, partLine, endLine, stoppedLine}
+use Rattle.line.specs.Lines.{Text, partNumbers, numbersLine, partLine, endLine, stoppedLine}
 use Rattle.lines.specs.Listing.{itemLine, itemLines, partsFor, linesAfter, linesNext, linesRun, walkLines}
 use Rattle.lines.specs.Making.{allNumbers, numberLines}
 

@@ -13,7 +13,7 @@ use Rattle.fields.proofs.Cases.{yes, no, both}
 use Rattle.fields.proofs.Opens.{not-true}
 use Rattle.text.specs.Put.{Put}
 use Rattle.text.proofs.Puts.{put-length, further}
-use Rattle.lines.specs.Lines.{Text}
+use Rattle.line.specs.Lines.{Text}
 use Rattle.lines.specs.Making.{Tells, Page, page, onto, pageOf, Pages}
 use Rattle.lines.specs.declared.Making.{Making}
 use Rattle.lines.specs.declared.Told.{Told}

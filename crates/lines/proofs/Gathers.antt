@@ -24,10 +24,10 @@ use Rattle.parts.specs.declared.Cursor.{Cursor}
 use Rattle.parts.specs.declared.Ended.{Ended}
 use Rattle.parts.specs.declared.Ended.the-variants as ended
 use Rattle.parts.proofs.Fills.{Filling, begun, stopped, more}
-use Rattle.lines.specs.Lines.{Text, partNumbers, nameText, valueText, partsText, attrLine}
+use Rattle.line.specs.Lines.{Text, partNumbers, nameText, valueText, partsText, attrLine}
 use Rattle.lines.specs.Listing.{firstSize, nameFor, valueFor, partsFor, listingText, itemLine}
 use Rattle.lines.specs.Making.{allNumbers, Gathers}
-use Rattle.lines.specs.declared.Gathered.{Gathered}
+use Rattle.line.specs.declared.Gathered.{Gathered}
 
 -- one number more behind y
 grown : (d x y : List ℕ) (m b : ℕ) → m < length d → take m d ≡ x ++ y → take (m + 1) (set d m b) ≡ x ++ (y ++ (b ∷ []))

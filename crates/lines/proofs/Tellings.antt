@@ -29,10 +29,10 @@ use Rattle.items.specs.declared.Walked.{Walked}
 use Rattle.items.proofs.Rests.{no-list-lies}
 use Rattle.items.proofs.Kept.{next-lies, item-lies, measure-small}
 use Rattle.text.specs.Put.{Put}
-use Rattle.lines.specs.Lines.{Text, recordLine, numbersLine, partLine, refusedLine}
+use Rattle.line.specs.Lines.{Text, recordLine, numbersLine, partLine, refusedLine}
 use Rattle.lines.specs.Listing.{itemLine, partsFor, walkLines, openedLines, baseLines}
 use Rattle.lines.specs.Making.{baseBytes, baseNumber, Based, Gathers, numberLines, partsToCome, toComeAt, toCome, Going, SoundAt, Sound, Tells, ending, showing, noNumbers, stageOf, beginning}
-use Rattle.lines.specs.declared.Gathered.{Gathered}
+use Rattle.line.specs.declared.Gathered.{Gathered}
 use Rattle.lines.specs.declared.Making.{Making}
 use Rattle.lines.specs.declared.Stage.{Stage}
 use Rattle.lines.specs.declared.Stage.the-variants as stage

@@ -6,7 +6,7 @@ use mathlib.Core.List.{List, [], _∷_}
 use lib.ListN.{length}
 use Rattle.fields.specs.Pick.{pick}
 use Rattle.fields.proofs.Cases.{yes, no}
-use Rattle.lines.specs.Lines.{Text}
+use Rattle.line.specs.Lines.{Text}
 use Rattle.lines.specs.Listing.{listingOf}
 use Rattle.lines.specs.Making.{toComeAt, toCome, Sound, Tells, pageOf, Pages, Lists, starting}
 use Rattle.lines.specs.declared.Making.{Making}

@@ -21,7 +21,7 @@ use Rattle.items.specs.declared.State.{State}
 use Rattle.items.specs.declared.Item.{Item}
 use Rattle.parts.specs.Parts as parts
 use Rattle.parts.specs.declared.Part.{Part}
-use Rattle.lines.specs.Lines.{Text, recordLine, nameText, valueText, partsText, attrLine, partLine, endLine, stoppedLine, refusedLine}
+use Rattle.line.specs.Lines.{Text, recordLine, nameText, valueText, partsText, attrLine, partLine, endLine, stoppedLine, refusedLine}
 
 -- "size the first part's data size"
 unfoldable pub firstSize : List Part → ℕ

@@ -18,9 +18,9 @@ use Rattle.items.specs.declared.State.{State}
 use Rattle.parts.specs.Parts as parts
 use Rattle.parts.specs.declared.Part.{Part}
 use Rattle.text.specs.Put.{Put}
-use Rattle.lines.specs.Lines.{Text, partNumbers, numbersLine, stoppedLine}
+use Rattle.line.specs.Lines.{Text, partNumbers, numbersLine, stoppedLine}
 use Rattle.lines.specs.Listing.{firstSize, walkLines, listingOf}
-use Rattle.lines.specs.declared.Gathered.{Gathered}
+use Rattle.line.specs.declared.Gathered.{Gathered}
 use Rattle.lines.specs.declared.Making.{Making}
 use Rattle.lines.specs.declared.Stage.{Stage}
 use Rattle.lines.specs.declared.Stage.the-variants as stage

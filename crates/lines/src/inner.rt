@@ -1,15 +1,14 @@
 // The listing line by line, for callers that began it with `start` and lend it the same table throughout.
-use crate::Gathered;
 use crate::Making;
 use crate::Stage;
 use crate::Told;
-use crate::put;
 use fields::Opened;
 use fields::RecordNumber;
 use items::Item;
 use items::ItemStep;
 use items::Rest;
 use items::State;
+use line::Gathered;
 use parts::Cursor;
 use parts::Ended;
 use parts::Part;
@@ -35,7 +34,7 @@ ghost use Rattle.table.specs.Held.{recordOf, baseOf};
 ghost use Rattle.items.specs.State.{Ready, Lies, state, noList, noKey};
 ghost use Rattle.parts.specs.Parts.{partsFrom, partsIn};
 ghost use Rattle.text.specs.Put.{Put};
-ghost use Rattle.lines.specs.Lines.{partNumbers, numbersLine, recordLine, refusedLine};
+ghost use Rattle.line.specs.Lines.{partNumbers, numbersLine, recordLine, refusedLine};
 ghost use Rattle.lines.specs.Listing.{nameFor, valueFor, partsFor, itemLine, walkLines, baseLines, listingOf};
 ghost use Rattle.lines.specs.Making.{Gathers, toComeAt, toCome, Based, Going, Sound, Tells, Pages, pageOf, ending, showing, noNumbers, stageOf, beginning};
 ghost use Rattle.lines.specs.declared.Stage.the-variants.{Items};
@@ -203,7 +202,7 @@ fn item_line<'a>(
     let v = contents_of(base, number, t, h, i);
     let name = v.name;
     let value = v.value;
-    let end = put::attr_line(out, at, i, name, parts, value);
+    let end = line::inner::attr_line(out, at, i, name, parts, value);
     Lined { end, parts }
 }
 
@@ -250,11 +249,11 @@ fn walk_line<'a>(
     let a = n.answer;
     match a {
         ItemStep::End => {
-            let end = put::end_line(out, at, reads);
+            let end = line::inner::end_line(out, at, reads);
             done(h, walk, end)
         }
         ItemStep::Refused(r) => {
-            let end = put::stopped_line(out, at, r.number, reads);
+            let end = line::inner::stopped_line(out, at, r.number, reads);
             done(h, walk, end)
         }
         ItemStep::Given(i) => {
@@ -287,7 +286,7 @@ fn part_line(m: Making, numbers: &mut [u64], out: &mut [u8], at: usize) -> Told
 {
     let from = 5 * m.shown;
     let to = from + 5;
-    let end = put::part_line(out, at, &numbers[from..to]);
+    let end = line::inner::part_line(out, at, &numbers[from..to]);
     let h = m.h;
     let walk = m.walk;
     let stage = Stage::Items;
@@ -329,7 +328,7 @@ fn refused(out: &mut [u8], at: usize) -> Told
     ensures { λ r. ⌜ Put (now (out .entry)) at (now (out .exit)) (r .end) refusedLine 256 ⌝ }
     ensures { λ r. ⌜ r ≡ ending noNumbers (state 0 noList noKey) (r .end) ⌝ }
 {
-    let end = put::refused_line(out, at);
+    let end = line::inner::refused_line(out, at);
     let h = Numbers {
         count: 0,
         size: 0,
@@ -361,7 +360,7 @@ fn record_line(base: &[u8], number: RecordNumber, h: Numbers, out: &mut [u8], at
     ensures { λ r. ⌜ Put (now (out .entry)) at (now (out .exit)) (r .end) (recordLine number (length (now (base .entry)))) 256 ⌝ }
     ensures { λ r. ⌜ r ≡ beginning h (now (base .entry)) (openIn (now (base .entry)) number (h .size)) (r .end) ⌝ }
 {
-    let end = put::record_line(out, at, number, base.len());
+    let end = line::inner::record_line(out, at, number, base.len());
     let o = fields::opening_in(base, number, h.size as usize);
     let stage = stage_of(o);
     let walk = items::fresh(base);
@@ -428,7 +427,7 @@ pub fn next<'a>(t: &'a [u8], m: Making, numbers: &mut [u64], out: &mut [u8], at:
         Stage::Stopped(n) => {
             let h = m.h;
             let walk = m.walk;
-            let end = put::stopped_line(out, at, n, m.reads);
+            let end = line::inner::stopped_line(out, at, n, m.reads);
             done(h, walk, end)
         }
         Stage::Done => Told {

@@ -1,22 +1,12 @@
 // The listing of a table as a value: its lines, one a call or as many as a buffer holds.
 pub mod inner;
-mod put;
 
 use items::State;
-use parts::Ended;
 use table::Numbers;
 ghost use mathlib.Core.Path.{_≡_};
 ghost use lib.ListN.{length};
 ghost use Rattle.lines.specs.Listing.{listingOf};
 ghost use Rattle.lines.specs.Making.{starting, pageOf, Lists};
-
-// The parts of an item, once their numbers were gathered: how many there are, the first one's data size, how they end, and what was read.
-pub struct Gathered {
-    pub count: usize,
-    pub size: u64,
-    pub answer: Ended,
-    pub reads: u64,
-}
 
 // Where a listing stands: before its first line, among its items, before the line that says by which number it is refused, or behind its last line.
 pub enum Stage {

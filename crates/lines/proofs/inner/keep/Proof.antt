@@ -3,7 +3,7 @@ use native.Mathlib.Omega.{arith}
 use Prim.Native.Nat.{_+_, _*_, _-_}
 use lib.ListN.{set, length-set}
 use borrow.Author.Needs.{needs}
-use Rattle.lines.specs.Lines.{partNumbers}
+use Rattle.line.specs.Lines.{partNumbers}
 use Rattle.lines.proofs.Gathers.{five-more, stores-long}
 use Rattle.lines.proofs.inner.keep.Statement.{statement}
 use Rattle.lines.proofs.inner.keep.Tie as tie

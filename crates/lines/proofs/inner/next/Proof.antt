@@ -2,7 +2,7 @@
 use mathlib.Core.Path.{refl, sym}
 use Prim.Native.Nat.{_-_}
 use borrow.Author.Needs.{needs}
-use Rattle.lines.specs.Lines.{stoppedLine}
+use Rattle.line.specs.Lines.{stoppedLine}
 use Rattle.lines.specs.Making.{toComeAt}
 use Rattle.lines.proofs.Tellings.{last-told, tells-of, come-at, sound-at, nothing-told}
 use Rattle.lines.proofs.inner.next.Statement.{statement}

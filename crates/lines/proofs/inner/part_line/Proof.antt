@@ -5,7 +5,7 @@ use mathlib.Core.Path.{_≡_, refl, ap}
 use Prim.Native.Nat.{ℕ, _+_, _*_, _-_}
 use borrow.Author.Needs.{needs}
 use Rattle.text.proofs.Puts.{said}
-use Rattle.lines.specs.Lines.{numbersLine}
+use Rattle.line.specs.Lines.{numbersLine}
 use Rattle.lines.proofs.inner.part_line.Statement.{statement}
 use Rattle.lines.proofs.inner.part_line.Tie as tie
 

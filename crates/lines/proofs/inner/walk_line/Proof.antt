@@ -4,7 +4,7 @@ use mathlib.Core.Path.{refl}
 use Prim.Native.Nat.{_+_, _-_}
 use borrow.Author.Needs.{needs}
 use Rattle.table.specs.Held.{recordOf}
-use Rattle.lines.specs.Lines.{endLine, stoppedLine}
+use Rattle.line.specs.Lines.{endLine, stoppedLine}
 use Rattle.lines.specs.Listing.{itemLine}
 use Rattle.lines.proofs.Comes.{walk-ends, walk-stops}
 use Rattle.lines.proofs.Tellings.{tells, last-told, based-ready, based-item, based-comes}

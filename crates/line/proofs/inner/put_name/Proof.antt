@@ -6,10 +6,10 @@ use borrow.Author.Needs.{needs}
 use Rattle.raw.specs.Span.{toldSpanned}
 use Rattle.text.specs.Words.{word, bytesFrom}
 use Rattle.text.proofs.Puts.{said}
-use Rattle.lines.specs.Lines.{nameText}
+use Rattle.line.specs.Lines.{nameText}
 use Rattle.raw.specs.declared.Spanned.{Spanned}
-use Rattle.lines.proofs.put.put_name.Statement.{statement}
-use Rattle.lines.proofs.put.put_name.Tie as tie
+use Rattle.line.proofs.inner.put_name.Statement.{statement}
+use Rattle.line.proofs.inner.put_name.Tie as tie
 
 enum-known-name : tie.Need-enum-known-name
 enum-known-name c = search needs

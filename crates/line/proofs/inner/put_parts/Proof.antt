@@ -6,10 +6,10 @@ use borrow.Author.Needs.{needs}
 use Rattle.parts.specs.Parts.{toldEnded}
 use Rattle.text.specs.Words.{word, bytesFrom}
 use Rattle.text.proofs.Puts.{both, said}
-use Rattle.lines.specs.Lines.{partsText}
+use Rattle.line.specs.Lines.{partsText}
 use Rattle.parts.specs.declared.Ended.{Ended}
-use Rattle.lines.proofs.put.put_parts.Statement.{statement}
-use Rattle.lines.proofs.put.put_parts.Tie as tie
+use Rattle.line.proofs.inner.put_parts.Statement.{statement}
+use Rattle.line.proofs.inner.put_parts.Tie as tie
 
 slice-aggregate-put-words : tie.Need-slice-aggregate-put-words
 slice-aggregate-put-words c = search needs

@@ -5,9 +5,9 @@ use Prim.Native.Nat.{_-_}
 use borrow.Author.Needs.{needs}
 use Rattle.text.specs.Words.{word, bytesFrom}
 use Rattle.text.proofs.Puts.{both, said}
-use Rattle.lines.specs.Lines.{endLine}
-use Rattle.lines.proofs.put.end_line.Statement.{statement}
-use Rattle.lines.proofs.put.end_line.Tie as tie
+use Rattle.line.specs.Lines.{refusedLine}
+use Rattle.line.proofs.inner.refused_line.Statement.{statement}
+use Rattle.line.proofs.inner.refused_line.Tie as tie
 
 slice-aggregate-put-words : tie.Need-slice-aggregate-put-words
 slice-aggregate-put-words c = search needs
@@ -25,11 +25,11 @@ same-length : tie.Need-same-length
 same-length c = search needs
 
 returns : tie.Need-returns
-unfolding endLine word bytesFrom
+unfolding refusedLine word bytesFrom
 returns c = said (both (c .before .before .before .before .before .before .put-words .ensures) (c .before .before .put-byte .ensures)) refl (omega arith)
 
-pub end-line-spec : {M : Type 1} → statement M
-end-line-spec =
+pub refused-line-spec : {M : Type 1} → statement M
+refused-line-spec =
     tie.close
     (tie.spec
     slice-aggregate-put-words

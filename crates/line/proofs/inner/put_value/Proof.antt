@@ -6,10 +6,10 @@ use borrow.Author.Needs.{needs}
 use Rattle.raw.specs.Value.{toldValued}
 use Rattle.text.specs.Words.{word, bytesFrom}
 use Rattle.text.proofs.Puts.{both, said}
-use Rattle.lines.specs.Lines.{valueText}
+use Rattle.line.specs.Lines.{valueText}
 use Rattle.raw.specs.declared.Valued.{Valued}
-use Rattle.lines.proofs.put.put_value.Statement.{statement}
-use Rattle.lines.proofs.put.put_value.Tie as tie
+use Rattle.line.proofs.inner.put_value.Statement.{statement}
+use Rattle.line.proofs.inner.put_value.Tie as tie
 
 enum-known-value : tie.Need-enum-known-value
 enum-known-value c = search needs

@@ -5,8 +5,8 @@ use Prim.Native.Nat.{_-_}
 use borrow.Author.Needs.{needs}
 use Rattle.fields.proofs.Cases.{yes, no}
 use Rattle.text.proofs.Puts.{said}
-use Rattle.lines.proofs.put.put_contents.Statement.{statement}
-use Rattle.lines.proofs.put.put_contents.Tie as tie
+use Rattle.line.proofs.inner.put_contents.Statement.{statement}
+use Rattle.line.proofs.inner.put_contents.Tie as tie
 
 put-parts-requires : tie.Need-put-parts-requires
 put-parts-requires c κs = search needs

@@ -5,9 +5,9 @@ use Prim.Native.Nat.{_-_}
 use borrow.Author.Needs.{needs}
 use Rattle.text.specs.Words.{word, bytesFrom}
 use Rattle.text.proofs.Puts.{both, said}
-use Rattle.lines.specs.Lines.{attrLine}
-use Rattle.lines.proofs.put.attr_line.Statement.{statement}
-use Rattle.lines.proofs.put.attr_line.Tie as tie
+use Rattle.line.specs.Lines.{attrLine}
+use Rattle.line.proofs.inner.attr_line.Statement.{statement}
+use Rattle.line.proofs.inner.attr_line.Tie as tie
 
 cast-t16 : tie.Need-cast-t16
 cast-t16 c = search needs

@@ -1,4 +1,4 @@
-// The lines of the listing, each put behind the text so far. None is longer than 256 bytes.
+// The lines of the listing, each put behind the text so far, for callers that have shown that there is room. None is longer than 256 bytes.
 use crate::Gathered;
 use fields::RecordNumber;
 use items::Item;
@@ -15,7 +15,7 @@ ghost use Rattle.raw.specs.Span.{toldSpanned};
 ghost use Rattle.raw.specs.Value.{toldValued};
 ghost use Rattle.parts.specs.Parts.{toldEnded};
 ghost use Rattle.text.specs.Put.{Put};
-ghost use Rattle.lines.specs.Lines.{recordLine, nameText, valueText, partsText, attrLine, numbersLine, endLine, stoppedLine, refusedLine};
+ghost use Rattle.line.specs.Lines.{recordLine, nameText, valueText, partsText, attrLine, numbersLine, endLine, stoppedLine, refusedLine};
 
 // record NUMBER size M
 pub fn record_line(out: &mut [u8], at: usize, number: RecordNumber, size: usize) -> usize

@@ -1,0 +1,2 @@
+-- The definition's chapter on the listing's lines.
+pub mod Lines
