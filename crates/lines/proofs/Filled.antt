@@ -14,7 +14,8 @@ use Rattle.fields.proofs.Opens.{not-true}
 use Rattle.text.specs.Put.{Put}
 use Rattle.text.proofs.Puts.{put-length, further}
 use Rattle.line.specs.Lines.{Text}
-use Rattle.lines.specs.Making.{Tells, Page, page, onto, pageOf, Pages}
+use Rattle.lines.specs.Making.{Tells}
+use Rattle.lines.specs.Pages.{Page, page, onto, pageOf, Pages}
 use Rattle.lines.specs.declared.Making.{Making}
 use Rattle.lines.specs.declared.Told.{Told}
 

@@ -3,7 +3,7 @@ use Prim.Native.Nat.{ℕ}
 use mathlib.Core.Path.{_≡_, refl, sym, ap, _∙_}
 use mathlib.Core.Bool.{Bool}
 use mathlib.Core.List.{List}
-use Rattle.lines.specs.Making.{Page, Lists}
+use Rattle.lines.specs.Pages.{Page, Lists}
 use Rattle.lines.specs.declared.Listed.{Listed}
 
 made : ℕ → Bool → Listed

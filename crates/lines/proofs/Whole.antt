@@ -8,7 +8,8 @@ use Rattle.fields.specs.Pick.{pick}
 use Rattle.fields.proofs.Cases.{yes, no}
 use Rattle.line.specs.Lines.{Text}
 use Rattle.lines.specs.Listing.{listingOf}
-use Rattle.lines.specs.Making.{toComeAt, toCome, Sound, Tells, pageOf, Pages, Lists, starting}
+use Rattle.lines.specs.Making.{toComeAt, toCome, Sound, Tells, starting}
+use Rattle.lines.specs.Pages.{pageOf, Pages, Lists}
 use Rattle.lines.specs.declared.Making.{Making}
 use Rattle.lines.specs.declared.Told.{Told}
 use Rattle.lines.specs.declared.Listed.{Listed}

@@ -1,9 +1,8 @@
 -- A listing that is being made: what is still to come of it, and what one call tells.
 use Prim.Native.Nat.{ℕ, zero, suc, _+_, _-_, _*_, _<_, _≤_}
 use mathlib.Core.Path.{_≡_}
-use mathlib.Core.Bool.{Bool, true, false}
+use mathlib.Core.Bool.{true, false}
 use mathlib.Core.List.{List, [], _∷_, _++_}
-use lib.Dec.{ltb}
 use lib.ListN.{length, take, drop}
 use Rattle.fields.specs.Pick.{pick}
 use Rattle.fields.specs.Answer.{Answer, gives, ends, refuses}
@@ -25,7 +24,6 @@ use Rattle.lines.specs.declared.Making.{Making}
 use Rattle.lines.specs.declared.Stage.{Stage}
 use Rattle.lines.specs.declared.Stage.the-variants as stage
 use Rattle.lines.specs.declared.Told.{Told}
-use Rattle.lines.specs.declared.Listed.{Listed}
 
 -- the base record and its number, for a table that has a base row
 abbrev pub baseBytes : List ℕ → Numbers → List ℕ
@@ -131,36 +129,3 @@ stageOf (refuses r) = stage.Stopped (r .number)
 
 abbrev pub beginning : Numbers → List ℕ → Answer Unit → ℕ → Told
 beginning h s a end = record { next = record { stage = stageOf a; h = h; walk = freshOf s; reads = 0; shown = 0; count = 0 }; end = end; more = true }
-
--- lines told into a buffer: their text, what is still to come, and whether the room ended before the lines did
-pub record Page : Type 0 where
-  pub text : Text
-  pub rest : List Text
-  pub more : Bool
-
-abbrev pub page : Text → List Text → Bool → Page
-page x ls b = record { text = x; rest = ls; more = b }
-
-abbrev pub onto : Text → Page → Page
-onto l p = page (l ++ p .text) (p .rest) (p .more)
-
--- a call that tells line after line, from the front of the buffer: the page, what is still to come, and the bytes behind the page as they were
-pub record Pages (p : Page) (after : List Text) (d e : List ℕ) (r : Told) : Type 0 where
-  pub text : e ≡ p .text ++ drop (length (p .text)) d
-  pub end : r .end ≡ length (p .text)
-  pub long : length e ≡ length d
-  pub fits : r .end ≤ length d
-  pub rest : after ≡ p .rest
-  pub more : r .more ≡ p .more
-
--- line after line, as long as there is room for the longest: 256 bytes
-unfoldable pub pageOf : ℕ → List Text → Page
-pageOf room [] = page [] [] (ltb room 256)
-pageOf room (l ∷ ls) = pick (ltb room 256) (page [] (l ∷ ls) true) (onto l (pageOf (room - length l) ls))
-
--- a listing in a lent buffer: its page in front, the bytes behind it as they were
-pub record Lists (p : Page) (d e : List ℕ) (r : Listed) : Type 0 where
-  pub text : e ≡ p .text ++ drop (length (p .text)) d
-  pub end : r .end ≡ length (p .text)
-  pub fits : r .end ≤ length d
-  pub more : r .more ≡ p .more

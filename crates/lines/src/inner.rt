@@ -36,7 +36,8 @@ ghost use Rattle.parts.specs.Parts.{partsFrom, partsIn};
 ghost use Rattle.text.specs.Put.{Put};
 ghost use Rattle.line.specs.Lines.{partNumbers, numbersLine, recordLine, refusedLine};
 ghost use Rattle.lines.specs.Listing.{nameFor, valueFor, partsFor, itemLine, walkLines, baseLines, listingOf};
-ghost use Rattle.lines.specs.Making.{Gathers, toComeAt, toCome, Based, Going, Sound, Tells, Pages, pageOf, ending, showing, noNumbers, stageOf, beginning};
+ghost use Rattle.lines.specs.Making.{Gathers, toComeAt, toCome, Based, Going, Sound, Tells, ending, showing, noNumbers, stageOf, beginning};
+ghost use Rattle.lines.specs.Pages.{Pages, pageOf};
 ghost use Rattle.lines.specs.declared.Stage.the-variants.{Items};
 
 // The name and the value of an item.

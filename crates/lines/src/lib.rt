@@ -6,7 +6,8 @@ use table::Numbers;
 ghost use mathlib.Core.Path.{_≡_};
 ghost use lib.ListN.{length};
 ghost use Rattle.lines.specs.Listing.{listingOf};
-ghost use Rattle.lines.specs.Making.{starting, pageOf, Lists};
+ghost use Rattle.lines.specs.Making.{starting};
+ghost use Rattle.lines.specs.Pages.{pageOf, Lists};
 
 // Where a listing stands: before its first line, among its items, before the line that says by which number it is refused, or behind its last line.
 pub enum Stage {
