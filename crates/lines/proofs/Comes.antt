@@ -41,6 +41,14 @@ number-lines (p ∷ ps) ns e =
     ap (λ (x : List ℕ). numbersLine x ∷ numberLines (length ps) (drop 5 ns)) (w .0) ∙ ap (λ (x : List Text). partLine p ∷ x) (number-lines ps (drop 5 ns) (w .1))
 
 module _ (s : List ℕ) (n : RecordNumber) (look : RecordNumber → Option (List ℕ)) where
+  -- a call of the walk that answered with a
+  called : (k : ℕ) (w : State) (r : Walked) {t : ItemStep} → toldNext r ≡ nextIn s n look w → r .answer ≡ t
+      → walkLines s n look k w ≡ linesAfter s n look (linesRun s n look (measure s w)) (k + r .reads) (r .left) (toldItem t)
+  unfolding walkLines linesRun linesNext
+  called k w r e t =
+      ap (λ (l : Left). linesAfter s n look (linesRun s n look (measure s w)) (k + l .reads) (l .left) (l .answer)) (sym e)
+      ∙ ap (λ (x : ItemStep). linesAfter s n look (linesRun s n look (measure s w)) (k + r .reads) (r .left) (toldItem x)) t
+
   -- more calls change nothing
   run-after : (f g k : ℕ) (w : State) (a : Answer Item) → ((i : Item) → a ≡ gives i → (k : ℕ) → linesRun s n look f k w ≡ linesRun s n look g k w)
       → linesAfter s n look (linesRun s n look f) k w a ≡ linesAfter s n look (linesRun s n look g) k w a
@@ -55,14 +63,6 @@ module _ (s : List ℕ) (n : RecordNumber) (look : RecordNumber → Option (List
   enough (suc f) zero k w a b = absurd (not-suc-le-zero b)
   enough (suc f) (suc g) k w a b =
       run-after f g _ _ (nextIn s n look w .answer) (λ i e j. let d = next-sinks s n look w i e in enough f g j (nextIn s n look w .left) (omega arith) (omega arith))
-
-  -- a call of the walk that answered with a
-  called : (k : ℕ) (w : State) (r : Walked) {t : ItemStep} → toldNext r ≡ nextIn s n look w → r .answer ≡ t
-      → walkLines s n look k w ≡ linesAfter s n look (linesRun s n look (measure s w)) (k + r .reads) (r .left) (toldItem t)
-  unfolding walkLines linesRun linesNext
-  called k w r e t =
-      ap (λ (l : Left). linesAfter s n look (linesRun s n look (measure s w)) (k + l .reads) (l .left) (l .answer)) (sym e)
-      ∙ ap (λ (x : ItemStep). linesAfter s n look (linesRun s n look (measure s w)) (k + r .reads) (r .left) (toldItem x)) t
 
   pub sinks : (w : State) (r : Walked) (i : Item) → toldNext r ≡ nextIn s n look w → toldItem (r .answer) ≡ gives i → measure s (r .left) < measure s w
   sinks w r i e t = subst (λ (l : Left). l .answer ≡ gives i → measure s (l .left) < measure s w) (sym e) (next-sinks s n look w i) t

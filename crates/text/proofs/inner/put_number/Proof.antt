@@ -20,7 +20,7 @@ slice-aggregate-put-text c = search needs
 
 put-text-requires : tie.Need-put-text-requires
 put-text-requires c κs =
-    let k = twenty _ (c .before .before .before .before .before .args .n) (omega arith) (c .before .before .decimal .ensures .1 .0) in
+    let k = twenty _ _ (omega arith) (c .before .before .decimal .ensures .1 .0) in
     omega (arith, k, c .before .before .decimal .ensures .0)
 
 same-length : tie.Need-same-length
@@ -29,7 +29,7 @@ same-length c = search needs
 returns : tie.Need-returns
 returns c =
     let d = c .before .before .before .before .before .decimal .ensures in
-    let k = twenty _ (c .before .before .before .before .before .before .before .before .args .n) (omega arith) (d .1 .0) in
+    let k = twenty _ _ (omega arith) (d .1 .0) in
     said (c .before .before .put-text .ensures) (d .1 .1 ∙ spelled _ _ k (d .1 .0)) (omega (arith, d .0))
 
 pub put-number-spec : {M : Type 1} → statement M
