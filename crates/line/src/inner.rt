@@ -27,6 +27,7 @@ pub fn record_line(out: &mut [u8], at: usize, number: RecordNumber, size: usize)
     put_byte(out, end, b'\n')
 }
 
+// name OFFSET BYTES, or name refused N
 fn put_name(out: &mut [u8], at: usize, name: Spanned) -> usize
     requires { ⌜ at + 55 ≤ length (now out) ⌝ }
     ensures { λ r. ⌜ Put (now (out .entry)) at (now (out .exit)) r (nameText (toldSpanned name)) 55 ⌝ }
@@ -37,6 +38,7 @@ fn put_name(out: &mut [u8], at: usize, name: Spanned) -> usize
     }
 }
 
+// value resident, value runs, or value refused
 fn put_value(out: &mut [u8], at: usize, value: Valued) -> usize
     requires { ⌜ at + 79 ≤ length (now out) ⌝ }
     ensures { λ r. ⌜ Put (now (out .entry)) at (now (out .exit)) r (valueText (toldValued value)) 79 ⌝ }
@@ -56,6 +58,7 @@ fn put_value(out: &mut [u8], at: usize, value: Valued) -> usize
     }
 }
 
+// value parts K, and their size or the refusal that ends them
 fn put_parts(out: &mut [u8], at: usize, g: Gathered) -> usize
     requires { ⌜ at + 79 ≤ length (now out) ⌝ }
     ensures { λ r. ⌜ Put (now (out .entry)) at (now (out .exit)) r (partsText (g .count) (g .size) (toldEnded (g .answer))) 79 ⌝ }

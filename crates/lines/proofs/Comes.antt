@@ -1,16 +1,22 @@
 -- What is still to come of a listing, call by call: each call of the walk gives its lines, more calls change nothing, and part lines come from the numbers.
-use Prim.Native.Nat.{ℕ, zero, suc, _+_, _-_, _*_, _<_, _≤_}
+use Prim.Native.Nat.{ℕ, zero, suc, _+_, _-_, _*_, _<_}
 use native.Mathlib.Omega.{arith}
 use native.Mathlib.Nat.{not-suc-le-zero}
 use mathlib.Core.Path.{_≡_, refl, sym, ap, _∙_, subst}
 use mathlib.Core.List.{List, [], _∷_, _++_, map}
-use mathlib.Core.Option.{Option}
+use mathlib.Core.Bool.{true}
+use mathlib.Core.Option.{Option, some, none}
+use lib.Dec.{ltb}
 use lib.ListN.{length, take, drop}
-use lib.Seq.{take-take, take-add, take-at, drop-at, drop-drop}
+use lib.Seq.{take-take, take-add, take-at, drop-at}
 use Rattle.fields.specs.Answer.{Answer, gives, ends, refuses}
 use Rattle.fields.specs.declared.RecordNumber.{RecordNumber}
+use Rattle.fields.proofs.Cases.{both}
+use Rattle.table.specs.Check.{tableOf}
+use Rattle.table.specs.Held.{Held, baseOf}
+use Rattle.table.specs.declared.Numbers.{Numbers}
 use Rattle.fields.specs.declared.Refusal.{Refusal}
-use Rattle.items.specs.Items.{Left, leaves, measure, nextIn, toldNext}
+use Rattle.items.specs.Items.{Left, measure, nextIn, toldNext}
 use Rattle.items.specs.Turn.{toldItem}
 use Rattle.items.specs.declared.State.{State}
 use Rattle.items.specs.declared.Item.{Item}
@@ -18,9 +24,13 @@ use Rattle.items.specs.declared.ItemStep.{ItemStep}
 use Rattle.items.specs.declared.Walked.{Walked}
 use Rattle.items.proofs.Kept.{next-sinks}
 use Rattle.parts.specs.declared.Part.{Part}
-use Rattle.line.specs.Lines.{Text, partNumbers, numbersLine, partLine, endLine, stoppedLine}
-use Rattle.lines.specs.Listing.{itemLine, itemLines, partsFor, linesAfter, linesNext, linesRun, walkLines}
-use Rattle.lines.specs.Making.{allNumbers, numberLines}
+use Rattle.line.specs.Lines.{Text, partNumbers, numbersLine, partLine, endLine, stoppedLine, refusedLine}
+use Rattle.lines.specs.Listing.{itemLine, itemLines, partsFor, linesAfter, linesNext, linesRun, walkLines, tableRefused, baseLines, checkedLines, listingOf}
+use Rattle.lines.specs.Making.{allNumbers, numberLines, partsToCome, toComeAt, toCome, anyAt}
+use Rattle.lines.specs.Pages.{any}
+use Rattle.lines.specs.declared.Making.{Making}
+use Rattle.lines.specs.declared.Stage.{Stage}
+use Rattle.lines.specs.declared.Stage.the-variants as stage
 
 -- the lines of parts are made from their numbers
 number-line : (p : Part) (ns rest : List ℕ) (k : ℕ) → take (5 * suc k) ns ≡ partNumbers p ++ rest → (take 5 ns ≡ partNumbers p) × (take (5 * k) (drop 5 ns) ≡ rest)
@@ -83,3 +93,45 @@ module _ (s : List ℕ) (n : RecordNumber) (look : RecordNumber → Option (List
       let d = sinks w r i e (ap toldItem q ∙ z) in
       called k w r e q ∙ ap (λ (a : Answer Item). linesAfter s n look (linesRun s n look (measure s w)) (k + r .reads) (r .left) a) z
       ∙ ap (λ (x : List Text). itemLine s n look i ∷ (map partLine (partsFor s n look i .parts) ++ x)) (enough (measure s w) (suc (measure s (r .left))) _ (r .left) d (omega arith))
+
+-- wherever a listing stands but behind its last line, there is a line to come
+any-behind : (xs ys : List Text) → any ys ≡ true → any (xs ++ ys) ≡ true
+unfolding any
+any-behind [] ys e = e
+any-behind (x ∷ xs) ys e = refl
+
+any-after : (s : List ℕ) (n : RecordNumber) (look : RecordNumber → Option (List ℕ)) (on : ℕ → State → List Text) (k : ℕ) (w : State) (a : Answer Item) → any (linesAfter s n look on k w a) ≡ true
+unfolding any linesAfter itemLines
+any-after s n look on k w (gives i) = refl
+any-after s n look on k w ends = refl
+any-after s n look on k w (refuses r) = refl
+
+any-walk : (s : List ℕ) (n : RecordNumber) (look : RecordNumber → Option (List ℕ)) (k : ℕ) (w : State) → any (walkLines s n look k w) ≡ true
+unfolding walkLines linesRun linesNext
+any-walk s n look k w = any-after s n look (linesRun s n look (measure s w)) _ _ (nextIn s n look w .answer)
+
+any-based : (t : List ℕ) (h : Numbers) (b : Option Held) → any (baseLines t h b) ≡ true
+unfolding any baseLines tableRefused
+any-based t h none = refl
+any-based t h (some b) = refl
+
+any-checked : (t : List ℕ) (a : Answer Numbers) → any (checkedLines t a) ≡ true
+unfolding any checkedLines tableRefused
+any-checked t (gives h) = any-based t h (baseOf t)
+any-checked t ends = refl
+any-checked t (refuses r) = refl
+
+any-listing : (t : List ℕ) → any (listingOf t) ≡ true
+unfolding any listingOf tableRefused
+any-listing t = both (λ (x : List Text). any x ≡ true) (ltb 65536 (length t)) (refusedLine ∷ []) (checkedLines t (tableOf t)) refl (any-checked t (tableOf t))
+
+any-stage : (t : List ℕ) (m : Making) (ns : List ℕ) (g : Stage) → anyAt g ≡ any (toComeAt t m ns g)
+unfolding any anyAt toComeAt
+any-stage t m ns stage.Start = sym (any-listing t)
+any-stage t m ns stage.Items = sym (any-behind (partsToCome m ns) _ (any-walk _ _ _ (m .reads) (m .walk)))
+any-stage t m ns (stage.Stopped n) = refl
+any-stage t m ns stage.Done = refl
+
+pub any-comes : (t : List ℕ) (m : Making) (ns : List ℕ) → anyAt (m .stage) ≡ any (toCome t m ns)
+unfolding toCome
+any-comes t m ns = any-stage t m ns (m .stage)

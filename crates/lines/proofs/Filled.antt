@@ -1,37 +1,36 @@
 -- A buffer filled line by line: the text so far, and then the page that what is left makes in the room that is left, is the page that all the lines make.
-use Prim.Native.Nat.{ℕ, zero, suc, _+_, _-_, _<_, _≤_}
+use Prim.Native.Nat.{ℕ, suc, _+_, _-_, _<_, _≤_}
 use native.Mathlib.Omega.{arith}
-use mathlib.Core.Path.{_≡_, refl, sym, ap, _∙_, subst}
+use mathlib.Core.Path.{_≡_, refl, sym, ap, _∙_}
 use mathlib.Core.Bool.{Bool, true, false}
 use mathlib.Core.List.{List, [], _∷_, _++_, append-assoc, append-nil}
 use borrow.Author.Tests.{lt-ltb, le-ltb}
 use lib.Dec.{ltb}
 use lib.ListN.{length, take, drop, take-append-drop}
 use lib.Seq.{length-take-le}
-use Rattle.fields.specs.Pick.{pick}
 use Rattle.fields.proofs.Cases.{yes, no, both}
 use Rattle.fields.proofs.Opens.{not-true}
 use Rattle.text.specs.Put.{Put}
 use Rattle.text.proofs.Puts.{put-length, further}
 use Rattle.line.specs.Lines.{Text}
 use Rattle.lines.specs.Making.{Tells}
-use Rattle.lines.specs.Pages.{Page, page, onto, pageOf, Pages}
+use Rattle.lines.specs.Pages.{any, Page, page, onto, pageOf, Pages}
 use Rattle.lines.specs.declared.Making.{Making}
 use Rattle.lines.specs.declared.Told.{Told}
 
 -- there is no room for the longest line
-page-full : (room : ℕ) (ls : List Text) → room < 256 → pageOf room ls ≡ page [] ls true
-unfolding pageOf
-page-full room [] l = ap (page [] []) (lt-ltb room 256 l)
+page-full : (room : ℕ) (ls : List Text) → room < 256 → pageOf room ls ≡ page [] ls (any ls)
+unfolding pageOf any
+page-full room [] l = refl
 page-full room (x ∷ ls) l = sym (yes _ _ _ (lt-ltb room 256 l) refl)
 
 page-more : (room : ℕ) (x : Text) (ls : List Text) → 256 ≤ room → pageOf room (x ∷ ls) ≡ onto x (pageOf (room - length x) ls)
 unfolding pageOf
 page-more room x ls l = sym (no _ _ _ (le-ltb room 256 l) refl)
 
-page-end : (room : ℕ) → 256 ≤ room → pageOf room [] ≡ page [] [] false
+page-end : (room : ℕ) → pageOf room [] ≡ page [] [] false
 unfolding pageOf
-page-end room l = ap (page [] []) (le-ltb room 256 l)
+page-end room = refl
 
 pub record Filling (lines : List Text) (d out : List ℕ) (at : ℕ) (left : List Text) : Type 0 where
   pub whole : pageOf (length d) lines ≡ onto (take at out) (pageOf (length d - at) left)
@@ -92,8 +91,8 @@ module _ (lines : List Text) (d out : List ℕ) (at : ℕ) (left : List Text) (h
         more = m ∙ ap (λ (x : Page). x .more) (sym p);
       }
 
-  pub full : (m : Making) → length out - at < 256 → Pages (pageOf (length d) lines) left d out (record { next = m; end = at; more = true })
-  full m l = let z = h .long in closes left (record { next = m; end = at; more = true }) true refl refl (page-full (length d - at) left (omega arith))
+  pub full : (m : Making) (b : Bool) → b ≡ any left → length out - at < 256 → Pages (pageOf (length d) lines) left d out (record { next = m; end = at; more = b })
+  full m b e l = let z = h .long in closes left (record { next = m; end = at; more = b }) (any left) refl e (page-full (length d - at) left (omega arith))
 
 pub ended : (lines : List Text) (d out : List ℕ) (at : ℕ) (left : List Text) → Filling lines d out at left → {e : List ℕ} {after : List Text} {r : Told} → 256 ≤ length out - at → Tells left after out at e r → r .more ≡ false
     → Pages (pageOf (length d) lines) after d e r
@@ -109,7 +108,7 @@ ended lines d out at left h {e} {after} {r} l t m =
     ap (pageOf (length d - at)) (b ∙ sym (s .1)) ∙ ap (λ (x : ℕ). pageOf (length d - x) after) (sym j) ∙ ap (λ (x : Text). onto x (pageOf (length d - r .end) after)) (sym (s .0)) in
     let g = stepped lines d out at left h (t .line) after p (omega arith) q in
     closes lines d e (r .end) after g after r false refl m
-    (ap (pageOf (length d - r .end)) (s .1) ∙ page-end (length d - r .end) (omega arith) ∙ ap (λ (x : List Text). page [] x false) (sym (s .1)))
+    (ap (pageOf (length d - r .end)) (s .1) ∙ page-end (length d - r .end) ∙ ap (λ (x : List Text). page [] x false) (sym (s .1)))
 
 -- a page takes lines from the front of what is to come
 page-rest : (room : ℕ) (ls : List Text) → length (pageOf room ls .rest) ≤ length ls
@@ -119,9 +118,9 @@ page-rest room (x ∷ ls) =
     let h = page-rest (room - length x) ls in
     both (λ (p : Page). length (p .rest) ≤ suc (length ls)) (ltb room 256) (page [] (x ∷ ls) true) (onto x (pageOf (room - length x) ls)) (omega arith) (omega arith)
 
--- at least one, where there is room for the longest and the room ends before the lines do
+-- at least one, where there is room for the longest and there is more to come
 page-less : (room : ℕ) (ls : List Text) → 256 ≤ room → pageOf room ls .more ≡ true → length (pageOf room ls .rest) < length ls
-page-less room [] l m = absurd (not-true (sym (ap (λ (p : Page). p .more) (page-end room l)) ∙ m))
+page-less room [] l m = absurd (not-true (sym (ap (λ (p : Page). p .more) (page-end room)) ∙ m))
 page-less room (x ∷ ls) l m =
     let h = page-rest (room - length x) ls in
     let k : length (pageOf room (x ∷ ls) .rest) ≡ length (pageOf (room - length x) ls .rest) = ap (λ (p : Page). length (p .rest)) (page-more room x ls l) in

@@ -7,7 +7,7 @@ use mathlib.Core.Bool.{true, false}
 use mathlib.Core.List.{List, [], _∷_, _++_, append-assoc, append-nil}
 use mathlib.Core.Option.{Option}
 use lib.Dec.{eqb}
-use lib.ListN.{length, take, drop, set, length-set}
+use lib.ListN.{length, take, set, length-set}
 use lib.Seq.{take-suc-set, length-take-le}
 use Rattle.fields.specs.Pick.{pick}
 use Rattle.fields.specs.Answer.{Answer, gives}
@@ -25,7 +25,7 @@ use Rattle.parts.specs.declared.Ended.{Ended}
 use Rattle.parts.specs.declared.Ended.the-variants as ended
 use Rattle.parts.proofs.Fills.{Filling, begun, stopped, more}
 use Rattle.line.specs.Lines.{Text, partNumbers, nameText, valueText, partsText, attrLine}
-use Rattle.lines.specs.Listing.{firstSize, nameFor, valueFor, partsFor, listingText, itemLine}
+use Rattle.lines.specs.Listing.{firstSize, nameFor, valueFor, partsFor, partsTextOf, itemLine}
 use Rattle.lines.specs.Making.{allNumbers, Gathers}
 use Rattle.line.specs.declared.Gathered.{Gathered}
 
@@ -147,13 +147,13 @@ gathered-none s n look l ns e =
 pub item-text : (s : List ℕ) (n : RecordNumber) (look : RecordNumber → Option (List ℕ)) (i : Item) {name : Answer Span} {value : Answer Value} {ns : List ℕ} {r : Gathered}
     → name ≡ nameFor s n look i → value ≡ valueFor s n look i → Gathers (partsFor s n look i) ns r
     → attrLine i (nameText name) (pick (i .rest .is) (partsText (r .count) (r .size) (toldEnded (r .answer))) (valueText value)) ≡ itemLine s n look i
-unfolding itemLine listingText
+unfolding itemLine partsTextOf
 item-text s n look i {name} {value} {ns} {r} a b g =
     ap (λ (x : Answer Span). attrLine i (nameText x) (pick (i .rest .is) (partsText (r .count) (r .size) (toldEnded (r .answer))) (valueText value))) a
     ∙ ap (λ (x : Answer Value). attrLine i (nameText (nameFor s n look i)) (pick (i .rest .is) (partsText (r .count) (r .size) (toldEnded (r .answer))) (valueText x))) b
     ∙ ap (λ (x : Text). attrLine i (nameText (nameFor s n look i)) (pick (i .rest .is) x (valueText (valueFor s n look i)))) (told-so g)
   where
-    told-so : Gathers (partsFor s n look i) ns r → partsText (r .count) (r .size) (toldEnded (r .answer)) ≡ listingText s n look (partsFor s n look i)
+    told-so : Gathers (partsFor s n look i) ns r → partsText (r .count) (r .size) (toldEnded (r .answer)) ≡ partsTextOf (partsFor s n look i)
     told-so g =
         ap (λ (x : ℕ). partsText x (r .size) (toldEnded (r .answer))) (g .count)
         ∙ ap (λ (x : ℕ). partsText (length (partsFor s n look i .parts)) x (toldEnded (r .answer))) (g .size)

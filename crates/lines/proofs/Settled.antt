@@ -1,6 +1,6 @@
 -- Two results that both meet the contract of `list` are equal, and so are the buffers that they leave: the page is the definition's, and nothing behind it changes.
 use Prim.Native.Nat.{ℕ}
-use mathlib.Core.Path.{_≡_, refl, sym, ap, _∙_}
+use mathlib.Core.Path.{_≡_, sym, ap, _∙_}
 use mathlib.Core.Bool.{Bool}
 use mathlib.Core.List.{List}
 use Rattle.lines.specs.Pages.{Page, Lists}

@@ -1,26 +1,26 @@
 -- What one call tells, from the line that it put: the lines that were to come are this one and those that are still to come, and the listing can go on.
-use Prim.Native.Nat.{ℕ, zero, suc, _+_, _-_, _*_, _<_, _≤_}
+use Prim.Native.Nat.{ℕ, suc, _+_, _-_, _*_, _<_, _≤_}
 use native.Mathlib.Omega.{arith}
 use mathlib.Core.Path.{_≡_, refl, sym, ap, _∙_, subst}
-use mathlib.Core.Bool.{Bool, true, false}
+use mathlib.Core.Bool.{true, false}
 use mathlib.Core.List.{List, [], _∷_, _++_, map, append-nil}
-use mathlib.Core.Option.{Option, some, none}
+use mathlib.Core.Option.{some}
 use lib.ListN.{length, take, drop}
 use lib.Seq.{drop-drop}
 use Rattle.fields.specs.Pick.{pick}
 use Rattle.fields.specs.Answer.{Answer, gives, ends, refuses}
 use Rattle.fields.specs.Open.{openIn}
 use Rattle.fields.specs.declared.RecordNumber.{RecordNumber}
-use Rattle.fields.proofs.Cases.{yes, no, not-first}
+use Rattle.fields.proofs.Cases.{yes, not-first}
 use Rattle.fields.proofs.Opens.{not-true}
 use Rattle.table.specs.Check.{tableOf}
-use Rattle.table.specs.Held.{Held, recordAt, recordOf, heldAt, baseRow, baseOf}
+use Rattle.table.specs.Held.{recordAt, recordOf, heldAt, baseRow, baseOf}
 use Rattle.table.specs.Layout.{rowAt}
 use Rattle.table.specs.declared.Numbers.{Numbers}
 use Rattle.table.proofs.Sound as tables
 use Rattle.table.proofs.Holds.{base-held, none-some, the-some}
 use Rattle.items.specs.State.{Lies, Ready, state, noList, noKey, freshOf}
-use Rattle.items.specs.Items.{Left, measure, mostReads, nextIn, toldNext}
+use Rattle.items.specs.Items.{Left, mostReads, nextIn, toldNext}
 use Rattle.items.specs.Turn.{toldItem}
 use Rattle.items.specs.declared.State.{State}
 use Rattle.items.specs.declared.Item.{Item}

@@ -23,17 +23,21 @@ use Rattle.parts.specs.Parts as parts
 use Rattle.parts.specs.declared.Part.{Part}
 use Rattle.line.specs.Lines.{Text, recordLine, nameText, valueText, partsText, attrLine, partLine, endLine, stoppedLine, refusedLine}
 
--- "size the first part's data size"
+-- "size the first part's data size"; parts that are whole are one at least
 unfoldable pub firstSize : List Part → ℕ
 firstSize [] = 0
 firstSize (p ∷ ps) = p .size
+
+-- the text of parts: how many, the size, and how they end
+unfoldable pub partsTextOf : parts.Listing → Text
+partsTextOf l = partsText (length (l .parts)) (firstSize (l .parts)) (l .answer)
 
 -- "with room for 157 parts"
 abbrev pub room : ℕ
 room = 157
 
 module _ (s : List ℕ) (n : RecordNumber) (look : RecordNumber → Option (List ℕ)) where
-  -- the record that an item lies in
+  -- the record that an item lies in. The walk has found it, so no refusal is printed, and no place
   unfoldable pub recordFor : Item → Answer (List ℕ)
   recordFor i = lookupIn s n look (i .file) 0
 
@@ -48,13 +52,9 @@ module _ (s : List ℕ) (n : RecordNumber) (look : RecordNumber → Option (List
   unfoldable pub partsFor : Item → parts.Listing
   partsFor i = parts.partsIn s n look room (i .rest)
 
-  -- the text of the parts: how many, the size, and how they end
-  unfoldable pub listingText : parts.Listing → Text
-  listingText l = partsText (length (l .parts)) (firstSize (l .parts)) (l .answer)
-
   -- the line of an item: the parts where it has a list, else the value
   unfoldable pub itemLine : Item → Text
-  itemLine i = attrLine i (nameText (nameFor i)) (pick (i .rest .is) (listingText (partsFor i)) (valueText (valueFor i)))
+  itemLine i = attrLine i (nameText (nameFor i)) (pick (i .rest .is) (partsTextOf (partsFor i)) (valueText (valueFor i)))
 
   -- "each item is one line .., then K lines `part ..`"
   unfoldable pub itemLines : Item → List Text
@@ -78,7 +78,7 @@ module _ (s : List ℕ) (n : RecordNumber) (look : RecordNumber → Option (List
   unfoldable pub walkLines : ℕ → State → List Text
   walkLines k w = linesRun (suc (measure s w)) k w
 
-  -- "A walk refusal, 2 for the base record too, ends it with `stopped N reads C`"
+  -- "A walk refusal, 2 for the base record too, ends it with `stopped N reads C`"; the opening checks do not end
   unfoldable pub openedLines : Answer Unit → List Text
   openedLines (gives u) = walkLines 0 (freshOf s)
   openedLines ends = []

@@ -1,7 +1,7 @@
 -- A listing that is being made: what is still to come of it, and what one call tells.
 use Prim.Native.Nat.{ℕ, zero, suc, _+_, _-_, _*_, _<_, _≤_}
 use mathlib.Core.Path.{_≡_}
-use mathlib.Core.Bool.{true, false}
+use mathlib.Core.Bool.{Bool, true, false}
 use mathlib.Core.List.{List, [], _∷_, _++_}
 use lib.ListN.{length, take, drop}
 use Rattle.fields.specs.Pick.{pick}
@@ -12,7 +12,7 @@ use Rattle.table.specs.Held.{recordAt, recordOf}
 use Rattle.table.specs.Layout.{rowAt}
 use Rattle.table.specs.declared.Numbers.{Numbers}
 use Rattle.items.specs.State.{Lies, state, noList, noKey, freshOf}
-use Rattle.items.specs.Items.{measure}
+use Rattle.items.specs.Items.{measure, mostReads}
 use Rattle.items.specs.declared.State.{State}
 use Rattle.parts.specs.Parts as parts
 use Rattle.parts.specs.declared.Part.{Part}
@@ -69,12 +69,20 @@ toComeAt t m ns stage.Done = []
 unfoldable pub toCome : List ℕ → Making → List ℕ → List Text
 toCome t m ns = toComeAt t m ns (m .stage)
 
--- what one call of the walk with its parts can read at most, and a whole listing: bounds that sums fit under, not the least
+-- whether there are any: all have been told behind the last line, and nowhere else
+unfoldable pub anyAt : Stage → Bool
+anyAt stage.Start = true
+anyAt stage.Items = true
+anyAt (stage.Stopped n) = true
+anyAt stage.Done = false
+
+-- what one call of the walk with its parts reads at most (257 for each byte of a list, and 257), and a whole listing, whose walk's measure is at most 12,289: bounds
+-- that sums fit under, not the least
 abbrev pub mostAtOnce : ℕ
-mostAtOnce = 4211459
+mostAtOnce = mostReads + 1052929
 
 abbrev pub mostInAll : ℕ
-mostInAll = 51754619651
+mostInAll = mostAtOnce * 12289
 
 -- among its items, a listing of table t stands where a call can go on
 pub record Going (t : List ℕ) (m : Making) : Type 0 where

@@ -1,7 +1,7 @@
 -- The listing in a lent buffer: as many lines as it has room for.
 use Prim.Native.Nat.{ℕ, _-_, _≤_}
 use mathlib.Core.Path.{_≡_}
-use mathlib.Core.Bool.{Bool, true}
+use mathlib.Core.Bool.{Bool, true, false}
 use mathlib.Core.List.{List, [], _∷_, _++_}
 use lib.Dec.{ltb}
 use lib.ListN.{length, drop}
@@ -10,7 +10,17 @@ use Rattle.line.specs.Lines.{Text}
 use Rattle.lines.specs.declared.Told.{Told}
 use Rattle.lines.specs.declared.Listed.{Listed}
 
--- lines told into a buffer: their text, what is still to come, and whether the room ended before the lines did
+-- whether there are lines
+unfoldable pub any : List Text → Bool
+any [] = false
+any (l ∷ ls) = true
+
+-- lines one behind another
+unfoldable pub joined : List Text → Text
+joined [] = []
+joined (l ∷ ls) = l ++ joined ls
+
+-- lines told into a buffer: their text, what is still to come, and whether there is more to come
 pub record Page : Type 0 where
   pub text : Text
   pub rest : List Text
@@ -22,9 +32,9 @@ page x ls b = record { text = x; rest = ls; more = b }
 abbrev pub onto : Text → Page → Page
 onto l p = page (l ++ p .text) (p .rest) (p .more)
 
--- line after line, as long as there is room for the longest: 256 bytes
+-- line after line, as long as there is room for the longest: 256 bytes. It takes lines from the front and loses none (proofs/Whole)
 unfoldable pub pageOf : ℕ → List Text → Page
-pageOf room [] = page [] [] (ltb room 256)
+pageOf room [] = page [] [] false
 pageOf room (l ∷ ls) = pick (ltb room 256) (page [] (l ∷ ls) true) (onto l (pageOf (room - length l) ls))
 
 -- a call that tells line after line, from the front of the buffer: the page, what is still to come, and the bytes behind the page as they were

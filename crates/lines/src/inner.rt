@@ -20,7 +20,7 @@ use table::Placed;
 use table::RowFound;
 use table::Tested;
 ghost use mathlib.Core.Path.{_≡_};
-ghost use mathlib.Core.List.{List, [], _∷_, _++_};
+ghost use mathlib.Core.List.{List, _++_};
 ghost use Prim.Native.Nat.{ℕ, _+_, _*_, _≤_, _<_};
 ghost use lib.Dec.{eqb};
 ghost use lib.ListN.{length, take, drop};
@@ -36,7 +36,7 @@ ghost use Rattle.parts.specs.Parts.{partsFrom, partsIn};
 ghost use Rattle.text.specs.Put.{Put};
 ghost use Rattle.line.specs.Lines.{partNumbers, numbersLine, recordLine, refusedLine};
 ghost use Rattle.lines.specs.Listing.{nameFor, valueFor, partsFor, itemLine, walkLines, baseLines, listingOf};
-ghost use Rattle.lines.specs.Making.{Gathers, toComeAt, toCome, Based, Going, Sound, Tells, ending, showing, noNumbers, stageOf, beginning};
+ghost use Rattle.lines.specs.Making.{Gathers, toComeAt, toCome, anyAt, Based, Going, Sound, Tells, ending, showing, noNumbers, stageOf, beginning};
 ghost use Rattle.lines.specs.Pages.{Pages, pageOf};
 ghost use Rattle.lines.specs.declared.Stage.the-variants.{Items};
 
@@ -181,6 +181,7 @@ struct Lined {
     parts: Gathered,
 }
 
+// The line of an item, with its parts gathered for the lines behind it.
 fn item_line<'a>(
     base: &'a [u8],
     number: RecordNumber,
@@ -439,7 +440,20 @@ pub fn next<'a>(t: &'a [u8], m: Making, numbers: &mut [u64], out: &mut [u8], at:
     }
 }
 
-// Line after line from the front of a buffer, as long as there is room for the longest; `more` says that the room ended before the lines did.
+// Whether a listing has lines to come.
+fn is_more(m: Making) -> bool
+    ensures { λ r. ⌜ r ≡ anyAt (m .stage) ⌝ }
+{
+    let stage = m.stage;
+    match stage {
+        Stage::Start => true,
+        Stage::Items => true,
+        Stage::Stopped(_) => true,
+        Stage::Done => false,
+    }
+}
+
+// Line after line from the front of a buffer, as long as there is room for the longest; `more` says that there are lines to come.
 pub fn fill<'a>(t: &'a [u8], m: Making, numbers: &mut [u64], out: &mut [u8]) -> Told
     requires { ⌜ Sound (now t) m ⌝ }
     requires { ⌜ 785 ≤ length (now numbers) ⌝ }
@@ -450,10 +464,11 @@ pub fn fill<'a>(t: &'a [u8], m: Making, numbers: &mut [u64], out: &mut [u8]) -> 
     let mut at: usize = 0;
     loop {
         if out.len() - at < 256 {
+            let more = is_more(here);
             return Told {
                 next: here,
                 end: at,
-                more: true,
+                more,
             };
         }
         let r = next(t, here, numbers, out, at);

@@ -28,7 +28,7 @@ pub struct Making {
     pub count: usize,
 }
 
-// What a call told: where the text now ends, whether there was a line, and the listing from there on.
+// What a call told: where the text now ends, and the listing from there on. `more` says of one line that there was one, of a page that more is to come.
 pub struct Told {
     pub next: Making,
     pub end: usize,
@@ -62,13 +62,13 @@ pub fn start() -> Making
     }
 }
 
-// How far the listing went: how many bytes of the buffer it fills, and whether the room ended before it did.
+// How far the listing went: how many bytes of the buffer it fills, and whether there is more of it.
 pub struct Listed {
     pub end: usize,
     pub more: bool,
 }
 
-// The listing of a table, into a lent buffer: all of it, or its first lines where the buffer has not 256 bytes left for the next.
+// The listing of a table, into a lent buffer: all of it, or its first lines where 256 bytes are not left for the next one.
 pub fn list<'a>(t: &'a [u8], out: &mut [u8]) -> Listed
     ensures { λ r. ⌜ Lists (pageOf (length (now (out .entry))) (listingOf (now (t .entry)))) (now (out .entry)) (now (out .exit)) r ⌝ }
 {

@@ -5,6 +5,7 @@ use mathlib.Core.Path.{_≡_, refl, _∙_}
 use Prim.Native.Nat.{_-_}
 use borrow.Author.Needs.{needs}
 use Rattle.lines.specs.Making.{Sound, toCome}
+use Rattle.lines.proofs.Comes.{any-comes}
 use Rattle.lines.proofs.Filled.{Filling, begun, more, fewer, full, ended}
 use Rattle.lines.proofs.inner.fill.Statement.{statement}
 use Rattle.lines.proofs.inner.fill.Tie as tie
@@ -21,14 +22,17 @@ loop-holds c = (c .before .before .before .pre .0, (refl, begun (toCome (c .befo
 sub-if1 : tie.Need-sub-if1 Inv-loop μ-loop
 sub-if1 c = let f = c .loop .inv .1 .1 .fits in let z = c .loop .inv .1 .1 .long in omega arith
 
+is-more-requires : tie.Need-is-more-requires Inv-loop μ-loop
+is-more-requires c κs = search needs
+
 same-length : tie.Need-same-length Inv-loop μ-loop
-same-length c = let q = c .before .loop .inv .1 .0 in search needs
+same-length c = let q = c .before .before .loop .inv .1 .0 in search needs
 
 same-length-2 : tie.Need-same-length-2 Inv-loop μ-loop
-same-length-2 c = let q = c .before .loop .inv .1 .1 .long in search needs
+same-length-2 c = let q = c .before .before .loop .inv .1 .1 .long in search needs
 
 returns : tie.Need-returns Inv-loop μ-loop
-returns c = (full (toCome (c .before .before .before .before .before .args .t .now) (c .before .before .before .before .before .args .m) (c .before .before .before .before .before .args .numbers .now)) (c .before .before .before .before .before .args .out .now) (c .before .loop .out) (c .before .loop .at) (toCome (c .before .before .before .before .before .args .t .now) (c .before .loop .here) (c .before .loop .numbers)) (c .before .loop .inv .1 .1) (c .before .loop .here) (search needs), (c .before .loop .inv .0, c .before .loop .inv .1 .0))
+returns c = (full (toCome (c .before .before .before .before .before .before .args .t .now) (c .before .before .before .before .before .before .args .m) (c .before .before .before .before .before .before .args .numbers .now)) (c .before .before .before .before .before .before .args .out .now) (c .before .before .loop .out) (c .before .before .loop .at) (toCome (c .before .before .before .before .before .before .args .t .now) (c .before .before .loop .here) (c .before .before .loop .numbers)) (c .before .before .loop .inv .1 .1) (c .before .before .loop .here) (c .is-more .result) (c .is-more .ensures ∙ any-comes (c .before .before .before .before .before .before .args .t .now) (c .before .before .loop .here) (c .before .before .loop .numbers)) (search needs), (c .before .before .loop .inv .0, c .before .before .loop .inv .1 .0))
 
 next-requires : tie.Need-next-requires Inv-loop μ-loop
 next-requires c κs = let f = c .before .before .before .loop .inv .1 .1 .fits in let z = c .before .before .before .loop .inv .1 .1 .long in let q = c .before .before .before .loop .inv .1 .0 in let p = c .before .before .before .before .before .before .before .pre .1 in (c .before .before .before .loop .inv .0, (omega arith, omega arith))
@@ -56,6 +60,7 @@ fill-spec =
     μ-loop
     loop-holds
     sub-if1
+    is-more-requires
     same-length
     same-length-2
     returns
