@@ -1,0 +1,2 @@
+-- The third demand over the definitions: what a whole listing reads, told by its trail, and its bound.
+pub mod Value

@@ -1,0 +1,2 @@
+-- A whole listing: what it reads.
+pub mod Run
