@@ -1,0 +1,82 @@
+-- What the layers below promise to the bound: a lookup's search reads no more than a sixteenth of a record, a list lies inside its attribute, an entry inside its list.
+use Prim.Native.Nat.{ℕ, _+_, _*_, _/_, _≤_}
+use mathlib.Core.Path.{_≡_, refl, sym, ap, subst}
+use mathlib.Core.Logic.{⊎-elim}
+use mathlib.Core.Bool.{Bool, true, false}
+use mathlib.Core.List.{List}
+use mathlib.Core.Option.{Option, some}
+use native.Mathlib.Nat.{le-refl}
+use native.Mathlib.Omega.{arith}
+use borrow.Author.Tests.{ltb-false}
+use lib.ListN.{length}
+use Rattle.fields.specs.Pick.{pick}
+use Rattle.fields.specs.Answer.{gives, refuses, refusal}
+use Rattle.fields.specs.declared.RecordNumber.{RecordNumber}
+use Rattle.fields.specs.declared.Refusal.{Refusal}
+use Rattle.fields.proofs.Cases.{not-first, either}
+use Rattle.fields.proofs.Answers.{refused-given, the-given, back}
+use Rattle.raw.specs.Find.{findOf}
+use Rattle.raw.specs.Value.{Full, resident, nonResident, fullIn, residentSpan, listAfter, listIn}
+use Rattle.raw.specs.declared.Attribute.{Attribute}
+use Rattle.raw.specs.declared.ResidentHeader.{ResidentHeader}
+use Rattle.raw.specs.declared.Span.{Span}
+use Rattle.raw.proofs.Finds.{few-reads}
+use Rattle.list.specs.Entry.{entryOf}
+use Rattle.list.specs.declared.Entry.{Entry}
+use Rattle.list.proofs.Given as entries
+use Rattle.table.specs.Lookup.{soughtIn, lookupIn}
+use Rattle.table.proofs.Holds.{the-some}
+use Rattle.table.proofs.Looks.{sought}
+use Rattle.items.specs.State.{partOf}
+use Rattle.items.specs.declared.Rest.{Rest}
+use Rattle.items.proofs.Turns.{entry-inside}
+
+-- no record that is looked up is longer than the base record
+abbrev pub Sized : List ℕ → (RecordNumber → Option (List ℕ)) → Type 0
+Sized s look = (w : RecordNumber) (b : List ℕ) → look w ≡ some b → length b ≤ length s
+
+module _ (s : List ℕ) (n : RecordNumber) (look : RecordNumber → Option (List ℕ)) (z : Sized s look) where
+  looked-sized : (w : RecordNumber) (at : ℕ) (t : List ℕ) → lookupIn s n look w at ≡ gives t → length t ≤ length s
+  unfolding soughtIn
+  looked-sized w at t e =
+      ⊎-elim (λ q. subst (λ (x : List ℕ). length x ≤ length s) (the-some q) (le-refl (length s))) (z w t) (either _ _ _ _ (sought s n look w at t e .is))
+
+  -- the search in a record that was looked up
+  pub few : (w : RecordNumber) (at : ℕ) (t : List ℕ) → lookupIn s n look w at ≡ gives t → (ty instance : ℕ) (miss : Refusal) → findOf t w ty instance miss .reads ≤ length s / 16
+  few w at t e ty instance miss = omega (arith, few-reads t w ty instance miss, looked-sized w at t e)
+
+-- a list lies inside the attribute that opens it
+pub record Within (h : Attribute) (p : Span) : Type 0 where
+  pub after : h .offset ≤ p .from
+  pub before : p .from + p .bytes ≤ h .offset + h .length
+
+module _ (s : List ℕ) (n : RecordNumber) (h : Attribute) (p : Span) where
+  resident-within : (f : ResidentHeader) → residentSpan n h f ≡ gives p → Within h p
+  unfolding residentSpan
+  resident-within f e =
+      let e₁ = not-first _ _ _ _ e refused-given in
+      let e₂ = not-first _ _ _ _ (e₁ .1) refused-given in
+      subst (Within h) (the-given (e₂ .1)) (record { after = omega arith; before = omega (arith, ltb-false) })
+
+  after-within : (f : Full) → listAfter n h f ≡ gives p → Within h p
+  unfolding listAfter
+  after-within (resident f) e = resident-within f e
+  after-within (nonResident f) e = absurd (refused-given e)
+
+  pub list-within : listIn s n h ≡ gives p → Within h p
+  unfolding listIn
+  list-within e = let t = back (fullIn s n h) (listAfter n h) p e in after-within (t .first) (t .next)
+
+-- an entry that stands at the front of a list is at least 26 long, and ends inside it
+pub record Stood (l : Rest) (e : Entry) : Type 0 where
+  pub least : 26 ≤ e .length
+  pub most : l .from + e .length ≤ l .to
+
+pub stood : (s : List ℕ) (n : RecordNumber) (l : Rest) (e : Entry) → entryOf (partOf s l) n (l .from) ≡ gives e → Stood l e
+stood s n l e q = let g = entries.given (partOf s l) n (l .from) e q in record { least = g .least; most = entry-inside s l e g }
+
+-- what holds of each side, where the test says so, holds of the choice
+pub by-test : {A : Type 0} (P : A → Type 0) (t : Bool) (x y : A) → (t ≡ true → P x) → (t ≡ false → P y) → P (pick t x y)
+unfolding pick
+by-test P true x y p q = p refl
+by-test P false x y p q = q refl
