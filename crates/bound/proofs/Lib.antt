@@ -2,3 +2,4 @@
 pub mod Value
 pub mod Facts
 pub mod Stretch
+pub mod Steps

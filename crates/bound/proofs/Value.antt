@@ -29,7 +29,7 @@ val A r x y = r + x * (2 + A) + y * (1 + A)
 
 module _ (A r x y r′ x′ y′ : ℕ) where
   -- nothing is read
-  pub val-pass : r′ ≤ r → x′ ≤ x → y′ ≤ y → val A r′ x′ y′ ≤ val A r x y
+  pub val-pass : r′ ≤ r → x′ ≤ x → y′ ≤ y → 0 + val A r′ x′ y′ ≤ val A r x y
   unfolding val
   val-pass hr hx hy = omega (arith, mul-le-mul-right (2 + A) hx, mul-le-mul-right (1 + A) hy)
 
