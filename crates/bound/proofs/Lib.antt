@@ -3,3 +3,4 @@ pub mod Value
 pub mod Facts
 pub mod Stretch
 pub mod Steps
+pub mod Bound
