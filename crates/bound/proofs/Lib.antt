@@ -4,3 +4,4 @@ pub mod Facts
 pub mod Stretch
 pub mod Steps
 pub mod Bound
+pub mod Trails

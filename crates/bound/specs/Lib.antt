@@ -1,2 +1,3 @@
--- A whole listing: what it reads.
+-- A whole listing: what it reads, as a count and as a trail.
 pub mod Run
+pub mod Trail
