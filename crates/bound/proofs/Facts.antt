@@ -80,3 +80,9 @@ pub by-test : {A : Type 0} (P : A → Type 0) (t : Bool) (x y : A) → (t ≡ tr
 unfolding pick
 by-test P true x y p q = p refl
 by-test P false x y p q = q refl
+
+-- what holds of the two first sides, and of the two second sides, holds of two choices by one test
+pub both-by : {A B : Type 0} (P : A → B → Type 0) (t : Bool) (x y : A) (x′ y′ : B) → P x x′ → P y y′ → P (pick t x y) (pick t x′ y′)
+unfolding pick
+both-by P true x y x′ y′ p q = p
+both-by P false x y x′ y′ p q = q

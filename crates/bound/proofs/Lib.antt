@@ -5,3 +5,4 @@ pub mod Stretch
 pub mod Steps
 pub mod Bound
 pub mod Trails
+pub mod Counts
