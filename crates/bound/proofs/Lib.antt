@@ -6,3 +6,4 @@ pub mod Steps
 pub mod Bound
 pub mod Trails
 pub mod Counts
+pub mod Order
