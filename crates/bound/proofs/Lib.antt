@@ -6,4 +6,6 @@ pub mod Steps
 pub mod Bound
 pub mod Trails
 pub mod Counts
+pub mod Stood
 pub mod Order
+pub mod Apart
