@@ -9,3 +9,5 @@ pub mod Counts
 pub mod Stood
 pub mod Order
 pub mod Apart
+pub mod Ends
+pub mod Third
