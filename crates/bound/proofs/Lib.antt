@@ -11,3 +11,4 @@ pub mod Order
 pub mod Apart
 pub mod Ends
 pub mod Third
+pub mod Callers
