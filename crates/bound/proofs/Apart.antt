@@ -6,10 +6,15 @@ use mathlib.Core.Option.{Option}
 use native.Mathlib.Nat.{le-refl}
 use native.Mathlib.Omega.{arith}
 use lib.ListN.{length}
+use Rattle.fields.specs.Answer.{Answer, gives, ends, refuses}
 use Rattle.fields.specs.declared.RecordNumber.{RecordNumber}
-use Rattle.items.specs.State.{noKey}
+use Rattle.fields.proofs.Cases.{both}
+use Rattle.list.specs.Entry.{entryOf}
+use Rattle.list.specs.declared.Entry.{Entry}
+use Rattle.items.specs.State.{noKey, partOf as listPart}
 use Rattle.items.specs.declared.Rest.{Rest}
-use Rattle.parts.specs.Parts.{Stepped, lists, stops, cursor, stepIn, Listing, partsAfter, partsRun, partsFrom, partsIn}
+use Rattle.parts.specs.Part.{partOf}
+use Rattle.parts.specs.Parts.{Stepped, lists, stops, cursor, stepAfter, stepPart, stepJoined, stepKeyed, stepEntered, stepIn, Listing, partsAfter, partsRun, partsFrom, partsIn}
 use Rattle.parts.specs.declared.Part.{Part}
 use Rattle.parts.specs.declared.Cursor.{Cursor}
 use Rattle.bound.specs.Run.{gaveAfter, gaveRun, gaveFrom, gaveIn, itemsOf}
@@ -68,18 +73,58 @@ module _ (s : List ℕ) (n : RecordNumber) (look : RecordNumber → Option (List
   pub apart : Sized s look → (i j : ℕ) (r t : Rest) → PartBy (itemsOf s n look room) i r → PartBy (itemsOf s n look room) j t → r .from ≡ t .from → i ≡ j
   apart z = let h = all-rise s n look room z in apart-in _ (h .0) (itemsOf s n look room) (h .1)
 
-  each-after : (l : Rest) (x : Stepped) (on : Cursor → Listing) (gave : Cursor → List Rest) → ((d : Cursor) → length (gave d) ≡ length (on d .parts))
-      → length (gaveAfter s n look room gave l x) ≡ length (partsAfter on x .parts)
+  -- the entry at the front of l leads to the part p
+  pub record Leads (l : Rest) (p : Part) : Type 0 where
+    pub entry : Entry
+    pub stands : entryOf (listPart s l) n (l .from) ≡ gives entry
+    pub leads : partOf s n look entry (l .from) .answer ≡ gives p
+
+  -- one entry for each part
+  abbrev pub Each : List Rest → List Part → Type 0
+  Each [] [] = Unit {0}
+  Each [] (p ∷ ps) = ⊥
+  Each (l ∷ ls) [] = ⊥
+  Each (l ∷ ls) (p ∷ ps) = Leads l p × Each ls ps
+
+  abbrev Led : Rest → Stepped → Type 0
+  Led l (lists p d k) = Leads l p
+  Led l (stops a k) = Unit {0}
+
+  after-led : (l : Rest) (e : Entry) → entryOf (listPart s l) n (l .from) ≡ gives e → (next : Cursor) (a : Answer Part) (k : ℕ) → partOf s n look e (l .from) .answer ≡ a
+      → Led l (stepAfter next a k)
+  unfolding stepAfter
+  after-led l e q next (gives p) k g = record { entry = e; stands = q; leads = g }
+  after-led l e q next ends k g = tt
+  after-led l e q next (refuses r) k g = tt
+
+  joined-led : (l : Rest) (e : Entry) → entryOf (listPart s l) n (l .from) ≡ gives e → (k : ℕ) (next : Cursor) (j : Answer Unit) → Led l (stepJoined s n look room k next e (l .from) j)
+  unfolding stepJoined stepPart
+  joined-led l e q k next (gives u) = both (Led l) _ _ _ (after-led l e q next _ _ refl) tt
+  joined-led l e q k next ends = tt
+  joined-led l e q k next (refuses r) = tt
+
+  entered-led : (k : ℕ) (c : Cursor) (a : Answer Entry) → entryOf (listPart s (c .list)) n (c .list .from) ≡ a → Led (c .list) (stepEntered s n look room k c (listPart s (c .list)) a)
+  unfolding stepEntered stepKeyed
+  entered-led k c (gives e) q = joined-led (c .list) e q k _ _
+  entered-led k c ends q = tt
+  entered-led k c (refuses r) q = tt
+
+  step-led : (k : ℕ) (c : Cursor) → Led (c .list) (stepIn s n look room k c)
+  unfolding stepIn
+  step-led k c = entered-led k c _ refl
+
+  each-after : (l : Rest) (x : Stepped) → Led l x → (on : Cursor → Listing) (gave : Cursor → List Rest) → ((d : Cursor) → Each (gave d) (on d .parts))
+      → Each (gaveAfter s n look room gave l x) (partsAfter on x .parts)
   unfolding gaveAfter partsAfter
-  each-after l (lists p d k) on gave ih = ap suc (ih d)
-  each-after l (stops a k) on gave ih = refl
+  each-after l (lists p d k) h on gave ih = (h, ih d)
+  each-after l (stops a k) h on gave ih = tt
 
-  each-run : (f k : ℕ) (c : Cursor) → length (gaveRun s n look room f k c) ≡ length (partsRun s n look room f k c .parts)
+  each-run : (f k : ℕ) (c : Cursor) → Each (gaveRun s n look room f k c) (partsRun s n look room f k c .parts)
   unfolding gaveRun partsRun
-  each-run zero k c = refl
-  each-run (suc f) k c = each-after (c .list) (stepIn s n look room k c) (partsRun s n look room f (k + 1)) (gaveRun s n look room f (k + 1)) (each-run f (k + 1))
+  each-run zero k c = tt
+  each-run (suc f) k c = each-after (c .list) (stepIn s n look room k c) (step-led k c) (partsRun s n look room f (k + 1)) (gaveRun s n look room f (k + 1)) (each-run f (k + 1))
 
-  -- one entry for each part of an item
-  pub each-part : (l : Rest) → length (gaveIn s n look room l) ≡ length (partsIn s n look room l .parts)
+  -- an item's entries lead to its parts, one to each
+  pub each-part : (l : Rest) → Each (gaveIn s n look room l) (partsIn s n look room l .parts)
   unfolding gaveIn gaveFrom partsIn partsFrom
-  each-part l = both-by (λ (x : List Rest) (y : Listing). length x ≡ length (y .parts)) (l .is) _ _ _ _ (each-run _ 0 (cursor l noKey)) refl
+  each-part l = both-by (λ (x : List Rest) (y : Listing). Each x (y .parts)) (l .is) _ _ _ _ (each-run _ 0 (cursor l noKey)) tt

@@ -23,7 +23,7 @@ use Rattle.bound.proofs.Bound.{bounded}
 use Rattle.bound.proofs.Counts.{count-is-trail}
 use Rattle.bound.proofs.Stood.{All, all-stand}
 use Rattle.bound.proofs.Order.{Follow, own-follow}
-use Rattle.bound.proofs.Apart.{PartBy, apart, each-part}
+use Rattle.bound.proofs.Apart.{PartBy, apart, Each, each-part}
 
 module _ (s : List ℕ) (n : RecordNumber) (look : RecordNumber → Option (List ℕ)) (room : ℕ) where
   -- the count is the length of the trail, and each element of the trail stands where it is said to
@@ -31,10 +31,10 @@ module _ (s : List ℕ) (n : RecordNumber) (look : RecordNumber → Option (List
     pub count : countOf s n look room ≡ length (trailOf s n look room)
     pub stand : All s n look (trailOf s n look room)
 
-  -- entries at one place give parts to one item; each part is given by one entry
+  -- entries at one place give parts to one item; and what `gaveIn` names are the entries that lead to the parts, one to each
   pub record Apart : Type 0 where
     pub one : (i j : ℕ) (r t : Rest) → PartBy (itemsOf s n look room) i r → PartBy (itemsOf s n look room) j t → r .from ≡ t .from → i ≡ j
-    pub each : (l : Rest) → length (gaveIn s n look room l) ≡ length (partsIn s n look room l .parts)
+    pub each : (l : Rest) → Each s n look room (gaveIn s n look room l) (partsIn s n look room l .parts)
 
   pub record Third : Type 0 where
     -- "a + 3e + 2ea": with a = m / 16 attributes and e = m / 26 entries at most in m bytes, so much is read at most, refusing calls included
