@@ -3,11 +3,9 @@ use Prim.Native.Nat.{ℕ, _+_, _*_, _/_, _≤_, zero-le}
 use mathlib.Core.Path.{_≡_, refl, sym, ap, _∙_, subst}
 use mathlib.Core.Bool.{Bool, true, false}
 use mathlib.Core.List.{List}
-use mathlib.Core.Option.{Option}
 use native.Mathlib.Omega.{arith}
 use borrow.Author.Tests.{le-ltb}
 use lib.ListN.{length}
-use Rattle.fields.specs.Pick.{pick}
 use Rattle.fields.specs.Answer.{Answer, gives, ends, refuses, _⟫_}
 use Rattle.fields.specs.declared.RecordNumber.{RecordNumber}
 use Rattle.fields.specs.declared.Refusal.{Refusal}
@@ -27,7 +25,7 @@ use Rattle.items.proofs.Kept.{next-lies, item-lies}
 use Rattle.parts.specs.Parts.{Listing, partsIn, partsOpened, partsOf}
 use Rattle.bound.specs.Run.{countFrom, countOf}
 use Rattle.bound.proofs.Ends.{count-item, count-end, count-refusal}
-use Rattle.bound.proofs.Third.{Third, third-of}
+use Rattle.bound.proofs.Third.{third-of}
 
 -- a list that lies inside the record passes check 22
 inside-of : (s : List ℕ) (n : RecordNumber) (l : Rest) → Lies (length s) l → insideOf s n l ≡ gives tt

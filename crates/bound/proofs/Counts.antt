@@ -1,6 +1,6 @@
 -- The count of a whole listing is the length of its trail: nothing is counted that is not read, and nothing that is read is left out.
-use Prim.Native.Nat.{ℕ, zero, suc, _+_, _-_}
-use mathlib.Core.Path.{_≡_, refl, sym, ap, subst, _∙_}
+use Prim.Native.Nat.{ℕ, zero, suc, _+_}
+use mathlib.Core.Path.{_≡_, refl, sym, ap, subst}
 use mathlib.Core.Logic.{⊎-elim}
 use mathlib.Core.List.{List, [], _∷_, _++_}
 use mathlib.Core.Option.{Option}
@@ -19,24 +19,22 @@ use Rattle.raw.specs.Find as find
 use Rattle.raw.specs.declared.Attribute.{Attribute}
 use Rattle.raw.specs.declared.Span.{Span}
 use Rattle.raw.proofs.Finds as finds
-use Rattle.list.specs.Entry.{entryOf}
 use Rattle.list.specs.declared.Entry.{Entry}
 use Rattle.table.specs.Lookup.{lookupIn}
-use Rattle.items.specs.State.{freshOf, noKey, partOf as listPart}
+use Rattle.items.specs.State.{freshOf, noKey}
 use Rattle.items.specs.Turn.{Small, passes, answers, foundTurn, soughtTurn, lookedTurn, givenTurn, entryAfter, entryTurn, listTurn, rawAfter, rawTurn, smallStep}
 use Rattle.items.specs.Items.{Left, Going, going, never, measure, turnAfter, turn, nextIn}
 use Rattle.items.specs.declared.State.{State}
 use Rattle.items.specs.declared.Item.{Item}
-use Rattle.items.specs.declared.Key.{Key}
 use Rattle.items.specs.declared.Rest.{Rest}
 use Rattle.items.proofs.Kept.{falls}
 use Rattle.parts.specs.Join.{judgePart, keyFor}
 use Rattle.parts.specs.Part.{partFound, partLooked, partOf}
-use Rattle.parts.specs.Parts.{Stepped, lists, stops, cursor, cursorPast, stepAfter, stepPart, stepJoined, stepKeyed, stepEntered, stepIn, Listing, listing, partsAfter, partsRun, partsFrom, partsIn}
+use Rattle.parts.specs.Parts.{Stepped, lists, stops, cursor, stepAfter, stepPart, stepJoined, stepKeyed, stepEntered, stepIn, Listing, partsAfter, partsRun, partsFrom, partsIn}
 use Rattle.parts.specs.declared.Part.{Part}
 use Rattle.parts.specs.declared.Cursor.{Cursor}
 use Rattle.bound.specs.Run.{countAfter, countNext, countRun, countFrom, countOf}
-use Rattle.bound.specs.Trail.{Read, own, entry, joined, seen, findTrail, rawTrail, lookedTrail, lookupTrail, searchTrail, entryTrail, stepTrail, nextTrail, joinTrail, keyedTrail, enteredTrail, partTrail, partsOnward, partsTrailRun, partsTrail, trailAfter, trailNext, trailFrom, trailOf}
+use Rattle.bound.specs.Trail.{Read, own, entry, seen, findTrail, rawTrail, lookedTrail, lookupTrail, searchTrail, entryTrail, stepTrail, nextTrail, joinTrail, keyedTrail, enteredTrail, partTrail, partsOnward, partsTrailRun, partsTrail, trailAfter, trailNext, trailFrom, trailOf}
 use Rattle.bound.proofs.Facts.{both-by}
 use Rattle.bound.proofs.Trails.{trailed}
 

@@ -1,7 +1,7 @@
 -- The calls suffice: more of them change nothing, so each run is its own equation, to the walk's end or its first refusal.
 use Prim.Native.Nat.{ℕ, zero, suc, _+_, _<_}
-use mathlib.Core.Path.{_≡_, refl, sym, ap, _∙_}
-use mathlib.Core.List.{List, [], _∷_, _++_}
+use mathlib.Core.Path.{_≡_, refl, ap, _∙_}
+use mathlib.Core.List.{List, _∷_, _++_}
 use mathlib.Core.Option.{Option}
 use native.Mathlib.Nat.{not-suc-le-zero, lt-suc-self}
 use native.Mathlib.Omega.{arith}

@@ -1,11 +1,10 @@
 -- The attributes that the walk itself reads in the base record: the raw place moves past each that is read, and by nothing else; so each begins where the one before ended.
-use Prim.Native.Nat.{ℕ, zero, suc, _+_, _-_}
+use Prim.Native.Nat.{ℕ, zero, suc, _+_}
 use mathlib.Core.Path.{_≡_, refl, sym, ap, subst, _∙_}
 use mathlib.Core.List.{List, [], _∷_, _++_}
 use mathlib.Core.Option.{Option}
 use lib.ListN.{length}
-use Rattle.fields.specs.Pick.{pick}
-use Rattle.fields.specs.Answer.{Answer, gives, ends, refuses, refusal, Counted}
+use Rattle.fields.specs.Answer.{Answer, gives, ends, refuses, refusal}
 use Rattle.fields.specs.Walk.{stop, go}
 use Rattle.fields.specs.Header.{firstAttribute}
 use Rattle.fields.specs.declared.RecordNumber.{RecordNumber}
@@ -27,7 +26,6 @@ use Rattle.items.specs.Turn.{Small, passes, answers, foundTurn, soughtTurn, loo
 use Rattle.items.specs.Items.{Left, Going, going, never, measure, turnAfter, turn, nextIn}
 use Rattle.items.specs.declared.State.{State}
 use Rattle.items.specs.declared.Item.{Item}
-use Rattle.items.specs.declared.Key.{Key}
 use Rattle.items.specs.declared.Rest.{Rest}
 use Rattle.items.proofs.Kept.{falls}
 use Rattle.parts.specs.Join.{judgePart, keyFor}

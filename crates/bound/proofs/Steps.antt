@@ -1,6 +1,6 @@
 -- Each small step of the walk, with its item's parts, is paid by what the worth of its state falls.
-use Prim.Native.Nat.{ℕ, zero, suc, _+_, _*_, _/_, _≤_, zero-le}
-use mathlib.Core.Path.{_≡_, refl, sym, ap, subst, _∙_}
+use Prim.Native.Nat.{ℕ, _+_, _*_, _/_, _≤_, zero-le}
+use mathlib.Core.Path.{_≡_, refl, sym, subst, _∙_}
 use mathlib.Core.Bool.{Bool, true, false}
 use mathlib.Core.List.{List, []}
 use mathlib.Core.Option.{Option}
@@ -8,13 +8,12 @@ use native.Mathlib.Nat.{le-refl}
 use native.Mathlib.Omega.{arith}
 use lib.ListN.{length}
 use Rattle.fields.specs.Pick.{pick}
-use Rattle.fields.specs.Answer.{Answer, gives, ends, refuses, refusal}
+use Rattle.fields.specs.Answer.{Answer, gives, ends, refuses}
 use Rattle.fields.specs.declared.RecordNumber.{RecordNumber}
 use Rattle.fields.proofs.Cases.{both, yes, no}
 use Rattle.fields.proofs.Opens.{not-true}
 use Rattle.raw.specs.Step.{stepAt}
 use Rattle.raw.specs.Value.{listIn}
-use Rattle.raw.specs.Find.{findOf}
 use Rattle.raw.specs.declared.Attribute.{Attribute}
 use Rattle.raw.specs.declared.Span.{Span}
 use Rattle.raw.proofs.Given.{Given, of-step}
@@ -29,8 +28,8 @@ use Rattle.items.specs.declared.Rest.{Rest}
 use Rattle.parts.specs.Parts.{partsIn}
 use Rattle.bound.specs.Run.{gaveIn}
 use Rattle.bound.proofs.Value.{R, E, R-step, E-step, E-mono, val, val-pass, val-raw, val-entry, val-item, val-one, val-some}
-use Rattle.bound.proofs.Facts.{Sized, few, Within, list-within, Stood, stood, by-test}
-use Rattle.bound.proofs.Stretch.{Rising, rising-hi, here, Run, Peeled, peel, no-stretch, no-entry, Took, took}
+use Rattle.bound.proofs.Facts.{Sized, few, Within, list-within, stood, by-test}
+use Rattle.bound.proofs.Stretch.{Rising, rising-hi, here, Run, peel, no-stretch, no-entry, took}
 
 -- the place that the walk has come to: the open list's next entry, else the raw place
 unfoldable pub front : State → ℕ

@@ -1,9 +1,9 @@
 -- Each element of the trail stands where it is said to: an attribute by checks 3 to 5 in the base record or in one that was looked up, an entry by checks 14 to 16 in its list.
-use Prim.Native.Nat.{ℕ, zero, suc, _+_, _-_}
+use Prim.Native.Nat.{ℕ, zero, suc, _+_}
 use mathlib.Core.Path.{_≡_, refl, sym, subst}
 use mathlib.Core.List.{List, [], _∷_, _++_}
 use mathlib.Core.Option.{Option}
-use Rattle.fields.specs.Answer.{Answer, gives, ends, refuses, refusal, Counted}
+use Rattle.fields.specs.Answer.{Answer, gives, ends, refuses}
 use Rattle.fields.specs.Header.{firstAttribute}
 use Rattle.fields.specs.declared.RecordNumber.{RecordNumber}
 use Rattle.fields.specs.declared.Refusal.{Refusal}
@@ -17,7 +17,7 @@ use Rattle.list.specs.Entry.{entryOf}
 use Rattle.list.specs.declared.Entry.{Entry}
 use Rattle.table.specs.Lookup.{lookupIn}
 use Rattle.items.specs.State.{freshOf, noKey, partOf as listPart}
-use Rattle.items.specs.Items.{Left, Going, going, never, measure, turn, nextIn}
+use Rattle.items.specs.Items.{going, never, measure, turn, nextIn}
 use Rattle.items.specs.declared.State.{State}
 use Rattle.items.specs.declared.Item.{Item}
 use Rattle.items.specs.declared.Rest.{Rest}

@@ -1,18 +1,18 @@
 -- The stretch of a list that an item's parts take: entry after entry agrees with the item's key, and each pays for itself and its lookup.
 use Prim.Native.Nat.{ℕ, zero, suc, _+_, _-_, _*_, _/_, _≤_}
 use mathlib.Core.Path.{_≡_, refl, sym, ap, subst, subst₂, _∙_}
-use mathlib.Core.Bool.{Bool, true, false}
+use mathlib.Core.Bool.{true, false}
 use mathlib.Core.List.{List, [], _∷_, _++_}
 use mathlib.Core.Option.{Option}
 use native.Mathlib.Nat.{le-refl}
 use native.Mathlib.Omega.{arith}
 use lib.ListN.{length}
-use lib.Dec.{eqb, ltb}
+use lib.Dec.{eqb}
 use Rattle.fields.specs.Pick.{pick}
-use Rattle.fields.specs.Answer.{Answer, gives, ends, refuses, refusal, Counted}
+use Rattle.fields.specs.Answer.{Answer, gives, ends, refuses}
 use Rattle.fields.specs.declared.RecordNumber.{RecordNumber}
-use Rattle.fields.proofs.Cases.{both, yes, not-first, not-second}
-use Rattle.fields.proofs.Answers.{ended-given, refused-given, the-given}
+use Rattle.fields.proofs.Cases.{both, yes}
+use Rattle.fields.proofs.Answers.{ended-given, the-given}
 use Rattle.fields.proofs.Opens.{not-true}
 use Rattle.list.specs.Entry.{entryOf}
 use Rattle.list.specs.declared.Entry.{Entry}
@@ -23,12 +23,12 @@ use Rattle.items.specs.declared.Rest.{Rest}
 use Rattle.items.specs.declared.Key.{Key}
 use Rattle.parts.specs.Join.{judgePart, keyFor}
 use Rattle.parts.specs.Part.{partFound, partLooked, partOf}
-use Rattle.parts.specs.Parts.{Stepped, lists, stops, cursor, cursorPast, stepAfter, stepPart, stepJoined, stepKeyed, stepEntered, stepIn, Listing, listing, partsAfter, partsRun, partsFrom, partsIn}
+use Rattle.parts.specs.Parts.{Stepped, lists, stops, cursor, cursorPast, stepAfter, stepPart, stepJoined, stepKeyed, stepEntered, stepIn, Listing, partsAfter, partsRun, partsFrom, partsIn}
 use Rattle.parts.specs.declared.Part.{Part}
 use Rattle.parts.specs.declared.Cursor.{Cursor}
 use Rattle.bound.specs.Run.{gaveAfter, gaveRun, gaveFrom, gaveIn}
-use Rattle.bound.proofs.Value.{E, E-step, E-mono, pay-part}
-use Rattle.bound.proofs.Facts.{Sized, few, Stood, stood, by-test}
+use Rattle.bound.proofs.Value.{E, E-step, pay-part}
+use Rattle.bound.proofs.Facts.{Sized, few, stood, by-test}
 
 -- entries rise by 26 bytes or more, from lo on and up to hi
 abbrev pub Rising : ℕ → List Rest → ℕ → Type 0

@@ -1,6 +1,6 @@
 -- The third demand, whole: for every record, number, lookup and room, whatever the bytes, from a fresh walk to its end or its first refusal, each item's parts asked for once.
 use Prim.Native.Nat.{ℕ, _+_, _*_, _/_, _≤_}
-use mathlib.Core.Path.{_≡_, refl, sym, _∙_, subst}
+use mathlib.Core.Path.{_≡_, refl}
 use mathlib.Core.List.{List}
 use mathlib.Core.Option.{Option}
 use native.Mathlib.Omega.{arith}

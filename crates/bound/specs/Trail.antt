@@ -18,7 +18,7 @@ use Rattle.list.specs.declared.Entry.{Entry}
 use Rattle.table.specs.Lookup.{lookupIn}
 use Rattle.items.specs.State.{freshOf, noKey, partOf as listPart}
 use Rattle.items.specs.Key.{agrees}
-use Rattle.items.specs.Items.{Left, Going, going, measure, turn, nextIn}
+use Rattle.items.specs.Items.{Left, going, measure, turn, nextIn}
 use Rattle.items.specs.declared.State.{State}
 use Rattle.items.specs.declared.Item.{Item}
 use Rattle.items.specs.declared.Key.{Key}
