@@ -89,12 +89,12 @@ module _ (s : List ℕ) (n : RecordNumber) where
         entry-step =
             let i = stood s n (w .list) e q in
             let l = st .inside o in
-            rw (front-open w o) (E-step (length s) (w .list .from) (w .list .from + e .length) (omega (arith, i .least)) (omega (arith, i .least, i .most)))
+            rw (front-open w o) (E-step _ _ _ (omega (arith, i .least)) (omega (arith, i .least, i .most)))
 
         -- an entry and its lookup are paid
         entry-some : (c : ℕ) → c ≤ length s / 16 → c + 1 ≤ worth w g
         unfolding worth
-        entry-some c h = val-some (length s / 16) (R (length s) (w .raw)) (E (length s) (front w)) (E (length s) g) c h (omega (arith, entry-step))
+        entry-some c h = val-some _ _ _ _ c h (omega (arith, entry-step))
 
         past-stands : (k : Key) (c g′ : ℕ) → Run s n k c (listAt (w .list .from + e .length) (w .list .to)) g′ → Stands (pastWith w e k) g′
         past-stands k c g′ r = record {
@@ -114,8 +114,7 @@ module _ (s : List ℕ) (n : RecordNumber) where
             record {
               end = p .end;
               stands = past-stands (w .key) (p .count) (p .end) (p .run);
-              paid = val-entry (length s / 16) (R (length s) (w .raw)) (E (length s) (front w)) (E (length s) g) (R (length s) (w .raw)) (E (length s) (w .list .from + e .length)) (E (length s) (p .end)) 0
-                  zero-le (le-refl _) entry-step (E-mono (length s) g (p .end) (p .later));
+              paid = val-entry _ _ _ _ _ _ _ 0 zero-le (le-refl _) entry-step (E-mono _ _ _ (p .later));
               rising = p .later;
             }
 
@@ -133,8 +132,7 @@ module _ (s : List ℕ) (n : RecordNumber) where
               record {
                 end = w .list .from + e .length;
                 stands = past-stands noKey 0 (w .list .from + e .length) refl;
-                paid = val-entry (length s / 16) (R (length s) (w .raw)) (E (length s) (front w)) (E (length s) g) (R (length s) (w .raw)) (E (length s) (w .list .from + e .length)) (E (length s) (w .list .from + e .length)) c
-                    h (le-refl _) entry-step (E-mono (length s) g (w .list .from + e .length) x);
+                paid = val-entry _ _ _ _ _ _ _ c h (le-refl _) entry-step (E-mono _ _ _ x);
                 rising = x;
               }
 
@@ -148,10 +146,9 @@ module _ (s : List ℕ) (n : RecordNumber) where
               record {
                 end = p .end;
                 stands = past-stands k (p .count) (p .end) (p .run);
-                paid = val-item (length s / 16) (R (length s) (w .raw)) (E (length s) (front w)) (E (length s) g) (R (length s) (w .raw)) (E (length s) (w .list .from + e .length)) (E (length s) (p .end))
-                    c (partsIn s n look room (w .list) .reads) (E (length s) (t .end)) h (le-refl _) entry-step
+                paid = val-item _ _ _ _ _ _ _ c (partsIn s n look room (w .list) .reads) (E (length s) (t .end)) h (le-refl _) entry-step
                     (subst (λ (x : ℕ). partsIn s n look room (w .list) .reads + E (length s) (t .end) * (1 + length s / 16) ≤ 1 + E (length s) x * (1 + length s / 16)) owes (t .paid))
-                    (E-mono (length s) (t .end) (p .end) (p .later));
+                    (E-mono _ _ _ (p .later));
                 rising = subst (λ (x : ℕ). Rising x (gaveIn s n look room (w .list)) (p .end)) owes (rising-hi (w .list .from) (t .end) (p .end) (gaveIn s n look room (w .list)) (p .later) (t .rising));
               }
 
@@ -186,8 +183,7 @@ module _ (s : List ℕ) (n : RecordNumber) where
           record {
             end = w .raw;
             stands = unlisted (closed w) refl;
-            paid = val-pass (length s / 16) (R (length s) (w .raw)) (E (length s) (front w)) (E (length s) g) (R (length s) (w .raw)) (E (length s) (front (closed w))) (E (length s) (w .raw))
-                (le-refl _) (E-mono (length s) (front w) (front (closed w)) (rw (front-shut (closed w) refl) x)) (E-mono (length s) g (w .raw) y);
+            paid = val-pass _ _ _ _ _ _ _ (le-refl _) (E-mono _ _ _ (rw (front-shut (closed w) refl) x)) (E-mono _ _ _ y);
             rising = y;
           }
 
@@ -201,11 +197,11 @@ module _ (s : List ℕ) (n : RecordNumber) where
       module _ (o : w .list .is ≡ false) where
         module _ (h : Attribute) (k : Given s (w .raw) h) where
           raw-step : R (length s) (w .raw + h .length) + 1 ≤ R (length s) (w .raw)
-          raw-step = R-step (length s) (w .raw) (h .length) (k .least) (k .most)
+          raw-step = R-step _ _ _ (k .least) (k .most)
 
           raw-one : 1 ≤ worth w g
           unfolding worth
-          raw-one = val-one (length s / 16) (R (length s) (w .raw)) (E (length s) (front w)) (E (length s) g) (omega (arith, raw-step))
+          raw-one = val-one _ _ _ _ (omega (arith, raw-step))
 
           -- past the attribute, with a list or with none, to a place p that is no earlier and owes nothing
           onto : (l : Rest) (p : ℕ) → front (state (w .raw + h .length) l (w .key)) ≡ p → w .raw ≤ p → Stands (state (w .raw + h .length) l (w .key)) p
@@ -218,8 +214,7 @@ module _ (s : List ℕ) (n : RecordNumber) where
               record {
                 end = p;
                 stands = y;
-                paid = val-raw (length s / 16) (R (length s) (w .raw)) (E (length s) (front w)) (E (length s) g) (R (length s) (w .raw + h .length)) (E (length s) (front v)) (E (length s) p)
-                    raw-step (E-mono (length s) (front w) (front v) (omega arith)) (E-mono (length s) g p (omega arith));
+                paid = val-raw _ _ _ _ _ _ _ raw-step (E-mono _ _ _ (omega arith)) (E-mono _ _ _ (omega arith));
                 rising = omega arith;
               }
 

@@ -96,7 +96,7 @@ module _ (s : List ℕ) (n : RecordNumber) where
 
   module _ (k : Key) (l : Rest) (inside : l .to ≤ length s) (e : Entry) (q : here l ≡ gives e) (a : agrees k e (listPart s l) ≡ true) (c : ℕ) (few : c ≤ length s / 16) where
     step : E (length s) (l .from + e .length) + 1 ≤ E (length s) (l .from)
-    step = let i = stood s n l e q in E-step (length s) (l .from) (l .from + e .length) (omega (arith, i .least)) (omega (arith, i .least, i .most))
+    step = let i = stood s n l e q in E-step _ _ _ (omega (arith, i .least)) (omega (arith, i .least, i .most))
 
     -- an entry that agrees, and gives no part
     took-one : Took k l (c + 1) []
@@ -104,10 +104,7 @@ module _ (s : List ℕ) (n : RecordNumber) where
       count = 1;
       end = l .from + e .length;
       run = (e, q, a, refl);
-      paid = omega (
-        arith,
-        pay-part (length s / 16) c 0 (E (length s) (l .from + e .length)) (E (length s) (l .from)) (E (length s) (l .from + e .length)) few step (omega arith),
-      );
+      paid = let p = pay-part _ c 0 _ _ (E (length s) (l .from + e .length)) few step (omega arith) in omega (arith, p);
       rising = omega arith;
     }
 
@@ -119,7 +116,7 @@ module _ (s : List ℕ) (n : RecordNumber) where
           count = suc (t .count);
           end = t .end;
           run = (e, q, a, t .run);
-          paid = pay-part (length s / 16) c r (E (length s) (l .from + e .length)) (E (length s) (l .from)) (E (length s) (t .end)) few step (t .paid);
+          paid = pay-part _ c r _ _ _ few step (t .paid);
           rising = (le-refl (l .from), rising-lo (l .from + 26) (l .from + e .length) (t .end) gave (omega (arith, i .least)) (t .rising));
         }
 
