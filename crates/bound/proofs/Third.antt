@@ -1,6 +1,6 @@
 -- The third demand, whole: for every record, number, lookup and room, whatever the bytes, from a fresh walk to its end or its first refusal, each item's parts asked for once.
 use Prim.Native.Nat.{ℕ, _+_, _*_, _/_, _≤_}
-use mathlib.Core.Path.{_≡_, refl}
+use mathlib.Core.Path.{_≡_, subst}
 use mathlib.Core.List.{List}
 use mathlib.Core.Option.{Option}
 use native.Mathlib.Omega.{arith}
@@ -64,6 +64,6 @@ table-sized s t h e l w b g = omega (arith, record-sized (sound t h e) w b g)
 pub third-of : (s : List ℕ) (n : RecordNumber) (t : List ℕ) (h : Numbers) (room : ℕ) → openTable s n t ≡ gives h → Third s n (recordOf t) room
 third-of s n t h room e = let o = opened s n t h e in third s n (recordOf t) room (table-sized s t h (o .table) (o .fits))
 
--- for a record of 1,024 bytes
-pub most-1024 : 1024 / 16 + 3 * (1024 / 26) + 2 * (1024 / 26 * (1024 / 16)) ≡ 5173
-most-1024 = refl
+-- for a record of 1,024 bytes, by computation
+pub third-1024 : (s : List ℕ) (n : RecordNumber) (look : RecordNumber → Option (List ℕ)) (room : ℕ) → Sized s look → length s ≡ 1024 → countOf s n look room ≤ 5173
+third-1024 s n look room z e = subst (λ (m : ℕ). countOf s n look room ≤ m / 16 + 3 * (m / 26) + 2 * (m / 26 * (m / 16))) e (third s n look room z .bound)
