@@ -11,4 +11,5 @@ pub mod Order
 pub mod Apart
 pub mod Ends
 pub mod Third
+pub mod Printed
 pub mod Callers
