@@ -1,10 +1,8 @@
 -- The entries that give parts rise from item to item, so none gives a part to two items; and there is one for each part.
-use Prim.Native.Nat.{ℕ, zero, suc, _+_, _≤_}
+use Prim.Native.Nat.{ℕ, zero, suc, _+_}
 use mathlib.Core.Path.{_≡_, refl, ap}
-use mathlib.Core.List.{List, [], _∷_, _++_, List·Memᴰ, List·Memᴰ·head, List·Memᴰ·tail}
+use mathlib.Core.List.{List, [], _∷_, _++_, List·Memᴰ}
 use mathlib.Core.Option.{Option}
-use native.Mathlib.Nat.{le-refl}
-use native.Mathlib.Omega.{arith}
 use Rattle.fields.specs.Answer.{Answer, gives, ends, refuses}
 use Rattle.fields.specs.declared.RecordNumber.{RecordNumber}
 use Rattle.fields.proofs.Cases.{both}
@@ -16,61 +14,43 @@ use Rattle.parts.specs.Part.{partOf}
 use Rattle.parts.specs.Parts.{Stepped, lists, stops, cursor, stepAfter, stepPart, stepJoined, stepKeyed, stepEntered, stepIn, Listing, partsAfter, partsRun, partsFrom, partsIn}
 use Rattle.parts.specs.declared.Part.{Part}
 use Rattle.parts.specs.declared.Cursor.{Cursor}
-use Rattle.bound.specs.Run.{gaveAfter, gaveRun, gaveFrom, gaveIn, itemsOf}
+use Rattle.bound.specs.Run.{Spot, gaveAfter, gaveRun, gaveFrom, gaveIn, itemsOf}
 use Rattle.bound.proofs.Facts.{Sized, both-by}
-use Rattle.bound.proofs.Stretch.{Rising}
+use Rattle.bound.proofs.Rising.{Before, before-trans, behind, not-behind, Rising, rising-before, first, last, split}
 use Rattle.bound.proofs.Bound.{flat, all-rise}
 
-rising-le : (lo hi : ℕ) (l : List Rest) → Rising lo l hi → lo ≤ hi
-rising-le lo hi [] r = r
-rising-le lo hi (x ∷ l) r = omega (arith, r .0, rising-le (x .from + 26) hi l (r .1))
+-- item i has a part by the entry x
+abbrev pub PartBy : List (List Spot) → ℕ → Spot → Type 0
+PartBy [] i x = ⊥
+PartBy (l ∷ ls) zero x = List·Memᴰ x l
+PartBy (l ∷ ls) (suc i) x = PartBy ls i x
 
-rising-in : (lo hi : ℕ) (x : Rest) (l : List Rest) → Rising lo l hi → List·Memᴰ x l → (lo ≤ x .from) × (x .from + 26 ≤ hi)
-rising-in lo hi x (y ∷ l) r (List·Memᴰ·head e) =
-    let p : x .from ≡ y .from = ap (λ (z : Rest). z .from) e in
-    let h = rising-le (y .from + 26) hi l (r .1) in
-    (omega (arith, r .0), omega arith)
-rising-in lo hi x (y ∷ l) r (List·Memᴰ·tail h) =
-    let k = rising-in (y .from + 26) hi x l (r .1) h in
-    (omega (arith, r .0, k .0), k .1)
-
-record Split (lo hi : ℕ) (l k : List Rest) : Type 0 where
-  mid : ℕ
-  front : Rising lo l mid
-  back : Rising mid k hi
-
-split : (lo hi : ℕ) (l k : List Rest) → Rising lo (l ++ k) hi → Split lo hi l k
-split lo hi [] k r = record { mid = lo; front = le-refl lo; back = r }
-split lo hi (x ∷ l) k r = let t = split (x .from + 26) hi l k (r .1) in record { mid = t .mid; front = (r .0, t .front); back = t .back }
-
--- item i has a part by the entry r
-abbrev pub PartBy : List (List Rest) → ℕ → Rest → Type 0
-PartBy [] i r = ⊥
-PartBy (x ∷ l) zero r = List·Memᴰ r x
-PartBy (x ∷ l) (suc i) r = PartBy l i r
-
-later : (lo hi : ℕ) (l : List (List Rest)) (i : ℕ) (r : Rest) → Rising lo (flat l) hi → PartBy l i r → lo ≤ r .from
+later : (lo hi : Spot) (ls : List (List Spot)) (i : ℕ) (x : Spot) → Rising lo (flat ls) hi → PartBy ls i x → Before lo x
 unfolding flat
-later lo hi [] i r h p = absurd p
-later lo hi (x ∷ l) zero r h p = let t = split lo hi x (flat l) h in rising-in lo (t .mid) r x (t .front) p .0
-later lo hi (x ∷ l) (suc i) r h p = let t = split lo hi x (flat l) h in omega (arith, rising-le lo (t .mid) x (t .front), later (t .mid) hi l i r (t .back) p)
+later lo hi [] i x h p = absurd p
+later lo hi (l ∷ ls) zero x h p = let t = split lo hi l (flat ls) h in first lo (t .mid) x l (t .front) p
+later lo hi (l ∷ ls) (suc i) x h p =
+    let t = split lo hi l (flat ls) h in
+    before-trans lo (t .mid) x (rising-before lo (t .mid) l (t .front)) (later (t .mid) hi ls i x (t .back) p)
 
-apart-in : (lo hi : ℕ) (l : List (List Rest)) → Rising lo (flat l) hi → (i j : ℕ) (r t : Rest) → PartBy l i r → PartBy l j t → r .from ≡ t .from → i ≡ j
+-- behind an entry of one item comes none of a later item
+not-later : (lo hi : Spot) (l : List Spot) (ls : List (List Spot)) (i : ℕ) (x : Spot) → Rising lo (l ++ flat ls) hi → List·Memᴰ x l → PartBy ls i x → ⊥
+not-later lo hi l ls i x h p q =
+    let t = split lo hi l (flat ls) h in
+    not-behind x (before-trans (behind x) (t .mid) x (last lo (t .mid) x l (t .front) p) (later (t .mid) hi ls i x (t .back) q))
+
+apart-in : (lo hi : Spot) (ls : List (List Spot)) → Rising lo (flat ls) hi → (i j : ℕ) (x : Spot) → PartBy ls i x → PartBy ls j x → i ≡ j
 unfolding flat
-apart-in lo hi [] h i j r t p q e = absurd p
-apart-in lo hi (x ∷ l) h zero zero r t p q e = refl
-apart-in lo hi (x ∷ l) h zero (suc j) r t p q e =
-    let k = split lo hi x (flat l) h in
-    absurd (omega (arith, rising-in lo (k .mid) r x (k .front) p .1, later (k .mid) hi l j t (k .back) q))
-apart-in lo hi (x ∷ l) h (suc i) zero r t p q e =
-    let k = split lo hi x (flat l) h in
-    absurd (omega (arith, rising-in lo (k .mid) t x (k .front) q .1, later (k .mid) hi l i r (k .back) p))
-apart-in lo hi (x ∷ l) h (suc i) (suc j) r t p q e = let k = split lo hi x (flat l) h in ap suc (apart-in (k .mid) hi l (k .back) i j r t p q e)
+apart-in lo hi [] h i j x p q = absurd p
+apart-in lo hi (l ∷ ls) h zero zero x p q = refl
+apart-in lo hi (l ∷ ls) h zero (suc j) x p q = absurd (not-later lo hi l ls j x h p q)
+apart-in lo hi (l ∷ ls) h (suc i) zero x p q = absurd (not-later lo hi l ls i x h q p)
+apart-in lo hi (l ∷ ls) h (suc i) (suc j) x p q = let t = split lo hi l (flat ls) h in ap suc (apart-in (t .mid) hi ls (t .back) i j x p q)
 
 module _ (s : List ℕ) (n : RecordNumber) (look : RecordNumber → Option (List ℕ)) (room : ℕ) where
-  -- two entries at one place of the base record give their parts to one item
-  pub apart : Sized s look → (i j : ℕ) (r t : Rest) → PartBy (itemsOf s n look room) i r → PartBy (itemsOf s n look room) j t → r .from ≡ t .from → i ≡ j
-  apart z = let h = all-rise s n look room z in apart-in _ (h .0) (itemsOf s n look room) (h .1)
+  -- no entry gives a part to two items
+  pub apart : Sized s look → (i j : ℕ) (x : Spot) → PartBy (itemsOf s n look room) i x → PartBy (itemsOf s n look room) j x → i ≡ j
+  apart z = let h = all-rise s n look room z in apart-in (h .start) (h .end) (itemsOf s n look room) (h .rises)
 
   -- the entry at the front of l leads to the part p
   pub record Leads (l : Rest) (p : Part) : Type 0 where

@@ -11,10 +11,9 @@ use Rattle.fields.specs.declared.Refusal.{Refusal}
 use Rattle.items.specs.Items.{measure, nextIn}
 use Rattle.items.specs.declared.State.{State}
 use Rattle.items.specs.declared.Item.{Item}
-use Rattle.items.specs.declared.Rest.{Rest}
 use Rattle.items.proofs.Kept.{next-sinks}
 use Rattle.parts.specs.Parts.{partsIn}
-use Rattle.bound.specs.Run.{countAfter, countNext, countRun, countFrom, gaveIn, itemsAfter, itemsNext, itemsRun}
+use Rattle.bound.specs.Run.{Spot, countAfter, countNext, countRun, countFrom, spotsOf, itemsAfter, itemsNext, itemsRun}
 use Rattle.bound.specs.Trail.{Read, nextTrail, partsTrail, trailAfter, trailNext, trailFrom}
 
 module _ (s : List ℕ) (n : RecordNumber) (look : RecordNumber → Option (List ℕ)) (room : ℕ) where
@@ -47,7 +46,7 @@ module _ (s : List ℕ) (n : RecordNumber) (look : RecordNumber → Option (List
   items-after : (f g : ℕ) (v : State) (a : Answer Item) → ((i : Item) → a ≡ gives i → itemsRun s n look room f v ≡ itemsRun s n look room g v)
       → itemsAfter s n look room (itemsRun s n look room f) v a ≡ itemsAfter s n look room (itemsRun s n look room g) v a
   unfolding itemsAfter
-  items-after f g v (gives i) h = ap (λ (x : List (List Rest)). gaveIn s n look room (i .rest) ∷ x) (h i refl)
+  items-after f g v (gives i) h = ap (λ (x : List (List Spot)). spotsOf s n look room v i ∷ x) (h i refl)
   items-after f g v ends h = refl
   items-after f g v (refuses r) h = refl
 

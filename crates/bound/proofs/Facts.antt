@@ -1,4 +1,4 @@
--- What the layers below promise to the bound: a lookup's search reads no more than a sixteenth of a record, a list lies inside its attribute, an entry inside its list.
+-- What the layers below promise to the bound: a lookup's search reads no more than a sixteenth of the record's length, and an entry is at least 26 long and ends inside its list.
 use Prim.Native.Nat.{ℕ, _+_, _/_, _≤_}
 use mathlib.Core.Path.{_≡_, refl, subst}
 use mathlib.Core.Logic.{⊎-elim}
@@ -7,19 +7,13 @@ use mathlib.Core.List.{List}
 use mathlib.Core.Option.{Option, some}
 use native.Mathlib.Nat.{le-refl}
 use native.Mathlib.Omega.{arith}
-use borrow.Author.Tests.{ltb-false}
 use lib.ListN.{length}
 use Rattle.fields.specs.Pick.{pick}
 use Rattle.fields.specs.Answer.{gives}
 use Rattle.fields.specs.declared.RecordNumber.{RecordNumber}
 use Rattle.fields.specs.declared.Refusal.{Refusal}
-use Rattle.fields.proofs.Cases.{not-first, either}
-use Rattle.fields.proofs.Answers.{refused-given, the-given, back}
+use Rattle.fields.proofs.Cases.{either}
 use Rattle.raw.specs.Find.{findOf}
-use Rattle.raw.specs.Value.{Full, resident, nonResident, fullIn, residentSpan, listAfter, listIn}
-use Rattle.raw.specs.declared.Attribute.{Attribute}
-use Rattle.raw.specs.declared.ResidentHeader.{ResidentHeader}
-use Rattle.raw.specs.declared.Span.{Span}
 use Rattle.raw.proofs.Finds.{few-reads}
 use Rattle.list.specs.Entry.{entryOf}
 use Rattle.list.specs.declared.Entry.{Entry}
@@ -44,28 +38,6 @@ module _ (s : List ℕ) (n : RecordNumber) (look : RecordNumber → Option (List
   -- the search in a record that was looked up
   pub few : (w : RecordNumber) (at : ℕ) (t : List ℕ) → lookupIn s n look w at ≡ gives t → (ty instance : ℕ) (miss : Refusal) → findOf t w ty instance miss .reads ≤ length s / 16
   few w at t e ty instance miss = omega (arith, few-reads t w ty instance miss, looked-sized w at t e)
-
--- a list lies inside the attribute that opens it
-pub record Within (h : Attribute) (p : Span) : Type 0 where
-  pub after : h .offset ≤ p .from
-  pub before : p .from + p .bytes ≤ h .offset + h .length
-
-module _ (s : List ℕ) (n : RecordNumber) (h : Attribute) (p : Span) where
-  resident-within : (f : ResidentHeader) → residentSpan n h f ≡ gives p → Within h p
-  unfolding residentSpan
-  resident-within f e =
-      let e₁ = not-first _ _ _ _ e refused-given in
-      let e₂ = not-first _ _ _ _ (e₁ .1) refused-given in
-      subst (Within h) (the-given (e₂ .1)) (record { after = omega arith; before = omega (arith, ltb-false) })
-
-  after-within : (f : Full) → listAfter n h f ≡ gives p → Within h p
-  unfolding listAfter
-  after-within (resident f) e = resident-within f e
-  after-within (nonResident f) e = absurd (refused-given e)
-
-  pub list-within : listIn s n h ≡ gives p → Within h p
-  unfolding listIn
-  list-within e = let t = back (fullIn s n h) (listAfter n h) p e in after-within (t .first) (t .next)
 
 -- an entry that stands at the front of a list is at least 26 long, and ends inside it
 pub record Stood (l : Rest) (e : Entry) : Type 0 where

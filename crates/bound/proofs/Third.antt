@@ -15,7 +15,7 @@ use Rattle.table.proofs.Sound.{sound, opened}
 use Rattle.table.proofs.Holds.{record-sized}
 use Rattle.items.specs.declared.Rest.{Rest}
 use Rattle.parts.specs.Parts.{partsIn}
-use Rattle.bound.specs.Run.{countOf, gaveIn, itemsOf}
+use Rattle.bound.specs.Run.{Spot, countOf, gaveIn, itemsOf}
 use Rattle.bound.specs.Trail.{trailOf, ownOf}
 use Rattle.bound.proofs.Value.{most}
 use Rattle.bound.proofs.Facts.{Sized}
@@ -31,9 +31,9 @@ module _ (s : List ℕ) (n : RecordNumber) (look : RecordNumber → Option (List
     pub count : countOf s n look room ≡ length (trailOf s n look room)
     pub stand : All s n look (trailOf s n look room)
 
-  -- entries at one place give parts to one item; and what `gaveIn` names are the entries that lead to the parts, one to each
+  -- items i and j with a part by one entry are one item; and what `gaveIn` names are the entries that lead to the parts, one to each
   pub record Apart : Type 0 where
-    pub one : (i j : ℕ) (r t : Rest) → PartBy (itemsOf s n look room) i r → PartBy (itemsOf s n look room) j t → r .from ≡ t .from → i ≡ j
+    pub one : (i j : ℕ) (x : Spot) → PartBy (itemsOf s n look room) i x → PartBy (itemsOf s n look room) j x → i ≡ j
     pub each : (l : Rest) → Each s n look room (gaveIn s n look room l) (partsIn s n look room l .parts)
 
   pub record Third : Type 0 where
@@ -43,7 +43,7 @@ module _ (s : List ℕ) (n : RecordNumber) (look : RecordNumber → Option (List
     pub told : Told
     -- the attributes that the walk itself reads in the base record, lookups aside, begin where the one before ended, the first at the first attribute offset, and each ends inside the record
     pub follow : Follow s (firstAttribute s) (ownOf (trailOf s n look room))
-    -- no list entry gives a part to two items; an entry that is told by its list and its place there is told by its place in the base record, as its list has one
+    -- no list entry, told by its list and its place there, gives a part to two items
     pub apart : Apart
 
   -- where no record that is looked up is longer than the base record

@@ -1,6 +1,6 @@
 -- A whole listing, from a fresh walk to its end or its first refusal, each item's parts asked for once: what it reads, and which entries give its parts.
 use Prim.Native.Nat.{ℕ, zero, suc, _+_, _-_}
-use mathlib.Core.List.{List, [], _∷_}
+use mathlib.Core.List.{List, [], _∷_, map}
 use mathlib.Core.Option.{Option}
 use Rattle.fields.specs.Pick.{pick}
 use Rattle.fields.specs.Answer.{Answer, gives, ends, refuses}
@@ -12,6 +12,15 @@ use Rattle.items.specs.declared.Item.{Item}
 use Rattle.items.specs.declared.Rest.{Rest}
 use Rattle.parts.specs.Parts.{Stepped, lists, stops, cursor, stepIn, partsIn}
 use Rattle.parts.specs.declared.Cursor.{Cursor}
+
+-- an entry, told by its list and its place there. An attribute opens one list at most, so a list is told by where its attribute ends:
+-- there the raw walk stands while the list is open, and while it stands there no other is (proofs/Lists.antt)
+pub record Spot : Type 0 where
+  pub list : ℕ
+  pub place : ℕ
+
+abbrev pub spot : ℕ → ℕ → Spot
+spot list place = record { list = list; place = place }
 
 module _ (s : List ℕ) (n : RecordNumber) (look : RecordNumber → Option (List ℕ)) (room : ℕ) where
   -- the count after k reads and an answer of the walk; `on` counts what comes after an item and its parts
@@ -35,7 +44,7 @@ module _ (s : List ℕ) (n : RecordNumber) (look : RecordNumber → Option (List
   unfoldable pub countOf : ℕ
   countOf = countFrom 0 (freshOf s)
 
-  -- an entry is told by its place and its list's end: the rest of its list from it on
+  -- an entry with what follows it: the rest of its list from it on
   unfoldable pub gaveAfter : (Cursor → List Rest) → Rest → Stepped → List Rest
   gaveAfter on l (stops a k) = []
   gaveAfter on l (lists p c k) = l ∷ on c
@@ -51,18 +60,22 @@ module _ (s : List ℕ) (n : RecordNumber) (look : RecordNumber → Option (List
   unfoldable pub gaveIn : Rest → List Rest
   gaveIn l = pick (l .is) (gaveFrom l) []
 
+  -- those of an item, where the call that gave it left the state w
+  unfoldable pub spotsOf : State → Item → List Spot
+  spotsOf w i = map (λ l. spot (w .raw) (l .from)) (gaveIn (i .rest))
+
   -- item after item, the entries that give its parts
-  unfoldable pub itemsAfter : (State → List (List Rest)) → State → Answer Item → List (List Rest)
-  itemsAfter on w (gives i) = gaveIn (i .rest) ∷ on w
+  unfoldable pub itemsAfter : (State → List (List Spot)) → State → Answer Item → List (List Spot)
+  itemsAfter on w (gives i) = spotsOf w i ∷ on w
   itemsAfter on w ends = []
   itemsAfter on w (refuses r) = []
 
-  unfoldable pub itemsNext : (State → List (List Rest)) → Left → List (List Rest)
+  unfoldable pub itemsNext : (State → List (List Spot)) → Left → List (List Spot)
   itemsNext on l = itemsAfter on (l .left) (l .answer)
 
-  unfoldable pub itemsRun : ℕ → State → List (List Rest)
+  unfoldable pub itemsRun : ℕ → State → List (List Spot)
   itemsRun zero w = []
   itemsRun (suc f) w = itemsNext (itemsRun f) (nextIn s n look w)
 
-  unfoldable pub itemsOf : List (List Rest)
+  unfoldable pub itemsOf : List (List Spot)
   itemsOf = itemsRun (suc (measure s (freshOf s))) (freshOf s)
