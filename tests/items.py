@@ -4,7 +4,6 @@ Every question goes to the program `walk` and every line that it writes is compa
 `python3 tests/items.py sample` writes the files stdin and stdout of the crate walk, which rt ci runs it on.
 """
 import base64
-import glob
 import os
 import random
 import struct
@@ -532,11 +531,7 @@ class Test(Asker):
             self.put(FIRST, r, text, number=number, ty=chance.choice((0x10, 0x20, 0x30, 0x80, 0x90, 0xB0, 0x100, 0x11, reading.MARKER)))
 
     def volumes(self, chance):
-        tables = []
-        for path in sorted(glob.glob(os.path.join(ROOT, "tests", "volumes", "*.tab"))):
-            with open(path, "rb") as given:
-                tables.append(given.read())
-        assert len(tables) >= 6
+        tables = walk_cases.volume_tables()
         for text in tables:
             # every record of the table is walked as if it were the base
             for number, r in walk_reading.table_of(text).rows.items():

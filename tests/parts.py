@@ -4,7 +4,6 @@ Every question goes to the program `ask_parts` and every line that it writes is 
 `python3 tests/parts.py sample` writes the files stdin and stdout of the crate ask_parts, which rt ci runs it on.
 """
 import collections
-import glob
 import os
 import random
 import struct
@@ -427,11 +426,7 @@ class Test(asking.Asker):
             self.put_both(r, text, rest, number, (chance.randrange(3),))
 
     def volumes(self, chance):
-        tables = []
-        for path in sorted(glob.glob(os.path.join(ROOT, "tests", "volumes", "*.tab"))):
-            with open(path, "rb") as given:
-                tables.append(given.read())
-        assert len(tables) >= 6
+        tables = walk_cases.volume_tables()
         for text in tables:
             # every record of the table is walked as if it were the base
             for number, r in walk_reading.table_of(text).rows.items():

@@ -1,7 +1,9 @@
-"""Tables for the tests of the item walk: made by hand, damaged copies of real ones, and random ones.
+"""Tables for the tests of the item walk: real ones, made by hand, damaged copies of real ones, and random ones.
 
 A table is bytes in document 01's format. Its base row's record is the one walked, unless a test says otherwise.
 """
+import glob
+import os
 import struct
 
 import reading
@@ -11,6 +13,18 @@ import walk_reading
 PATTERN = bytes((7 * i + 3) % 251 + 1 for i in range(4200))
 END = struct.pack("<I", reading.MARKER)
 FIRST = 56
+
+
+# Real ones.
+
+def volume_tables():
+    """The tables of tests/volumes, in the order of their names."""
+    tables = []
+    for path in sorted(glob.glob(os.path.join(os.path.dirname(os.path.abspath(__file__)), "volumes", "*.tab"))):
+        with open(path, "rb") as given:
+            tables.append(given.read())
+    assert len(tables) >= 6
+    return tables
 
 
 # Made by hand.
