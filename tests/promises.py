@@ -55,8 +55,9 @@ def faults(text, calls):
         if not settled and not cells[2].startswith("="):
             found.append("%s: nothing settles it" % named[0])
         found += ["%s: no law %s" % (named[0], law) for law in settled if law not in laws]
-        edits = [edit for edit in re.findall(r"`(\w+)`", cells[3]) if edit not in {call.split("::")[1] for call in calls}]
-        found += ["%s: no edit %s" % (named[0], edit) for edit in edits if edit not in names(crate, None, ("must-fail", "*.edit"))]
+        # an edit of a crate below is written with it: `crate/edit`
+        edits = [(below or crate, edit) for below, edit in re.findall(r"`(?:(\w+)/)?(\w+)`", cells[3]) if edit not in {call.split("::")[1] for call in calls}]
+        found += ["%s: no edit %s" % (named[0], edit) for owner, edit in edits if edit not in names(owner, None, ("must-fail", "*.edit"))]
         if len(edits) < 2 and not cells[3].startswith("("):
             found.append("%s: under two edits" % named[0])
     found += ["%s: no row" % call for call in sorted(calls - told)]
@@ -71,7 +72,7 @@ def self_test(text, calls):
         (text.replace(row + "\n", ""), "items::next: no row"),
         (text.replace("`items::next`", "`items::after`"), "items::after: no such call"),
         (text.replace("`next-settled`", "`next-shaken`"), "items::next: no law next-shaken"),
-        (text.replace("`entry_not_counted` |\n| `items::first", "`entry_lost` |\n| `items::first"), "items::next: no edit entry_lost"),
+        (text.replace("`turns/entry_not_counted` |\n| `items::first", "`turns/entry_lost` |\n| `items::first"), "items::next: no edit entry_lost"),
         (text.replace(row, row.replace("`next-settled`", "–")), "items::next: nothing settles it"),
     ):
         assert what in faults(wrong, calls), (what, faults(wrong, calls))

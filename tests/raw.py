@@ -19,9 +19,9 @@ from asking import LAST, ROOT, Asker, of, said, said_bytes
     MOVED, TAKEN,
 ) = KINDS = range(16)
 CALLS = (
-    "fields::header", "raw::step", "raw::name", "raw::full", "raw::value", "raw::name_view", "raw::value_view",
+    "fields::header", "raw::step", "values::name", "values::full", "values::value", "values::name_view", "values::value_view",
     "raw::attribute_at", "raw::inner::find", "fields::opening_in", "fields::known_type", "fields::attribute_flags",
-    "raw::step, from the first attribute on", "raw::inner::list_of, behind raw::attribute_at",
+    "raw::step, from the first attribute on", "values::inner::list_of, behind raw::attribute_at",
     "reader::step", "reader::taken",
 )
 

@@ -17,8 +17,8 @@ from asking import LAST, ROOT, Asker, of, run, said, said_bytes
 # The kinds, by the call that answers.
 HEADER, STEP, BASE_ROW, CHECK, OPENING, LOOKUP, VIEW = KINDS = range(7)
 CALLS = (
-    "list::header", "list::step", "table::base_row", "table::check", "table::opening", "table::lookup",
-    "table::lookup_view",
+    "list::header", "list::step", "table::base_row", "table::check", "table::opening", "lookup::lookup",
+    "lookup::lookup_view",
 )
 
 SEED = 20240402
@@ -639,7 +639,7 @@ def main():
     test.random_tables(test.volumes(), random.Random(SEED))
     needed = {
         "list::header": (14, 15, 16), "list::step": (14, 15, 16), "table::check": (21,), "table::opening": (21, 1, 2),
-        "table::lookup": (21, 1, 2, 17, "2 of the record looked up"),
+        "lookup::lookup": (21, 1, 2, 17, "2 of the record looked up"),
     }
     test.finish("%s %s" % (call, number) for call, refusals in needed.items() for number in refusals)
 

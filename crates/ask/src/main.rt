@@ -39,11 +39,11 @@ fn put_answer(out: &mut [u8], s: &[u8], q: Question) -> usize {
     match kind {
         0 => answer::put_header(out, fields::header(s, number)),
         1 => answer::put_step(out, 0, raw::step(s, number, place)),
-        2 => answer::put_spanned(out, raw::name(s, number, place)),
-        3 => answer::put_full(out, raw::full(s, number, place)),
-        4 => answer::put_valued(out, raw::value(s, number, place)),
-        5 => answer::put_view(out, raw::name_view(s, number, place)),
-        6 => answer::put_view(out, raw::value_view(s, number, place)),
+        2 => answer::put_spanned(out, values::name(s, number, place)),
+        3 => answer::put_full(out, values::full(s, number, place)),
+        4 => answer::put_valued(out, values::value(s, number, place)),
+        5 => answer::put_view(out, values::name_view(s, number, place)),
+        6 => answer::put_view(out, values::value_view(s, number, place)),
         7 => answer::put_checked(out, 0, raw::attribute_at(s, number, place)),
         8 => put_search(out, s, q),
         9 => answer::put_opened(out, fields::opening_in(s, number, place)),
@@ -69,7 +69,7 @@ fn put_list(out: &mut [u8], s: &[u8], number: RecordNumber, place: usize) -> usi
     let a = raw::attribute_at(s, number, place);
     match a {
         raw::Checked::Refused(r) => words::put_refused(out, 0, r),
-        raw::Checked::Given(h) => answer::put_spanned(out, raw::inner::list_of(s, number, h)),
+        raw::Checked::Given(h) => answer::put_spanned(out, values::inner::list_of(s, number, h)),
     }
 }
 

@@ -1,10 +1,10 @@
 // The answers of the parts, and of a walk that asks for them, as words and decimal numbers. Each function is handed where the line ends, and gives where it then ends.
 use fields::Refusal;
-use items::Item;
-use items::Rest;
+use part::Part;
 use parts::Collected;
 use parts::Ended;
-use parts::Part;
+use turns::Item;
+use turns::Rest;
 use words::put_byte;
 use words::put_refused;
 use words::put_text;

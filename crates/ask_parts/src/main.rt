@@ -7,10 +7,10 @@ use fields::RecordNumber;
 use fields::inner::u16_at;
 use fields::inner::u32_at;
 use fields::inner::u64_at;
-use items::Item;
-use items::ItemStep;
-use items::Rest;
 use libc::STDIN_FILENO;
+use turns::Item;
+use turns::ItemStep;
+use turns::Rest;
 use words::read_part;
 use words::write_line;
 

@@ -1,7 +1,7 @@
 // The answers of the layers `list` and `table` as words and decimal numbers.
 use list::EntryStep;
 use list::Listed;
-use table::Looked;
+use lookup::Looked;
 use table::RowFound;
 use table::Tested;
 use words::put_bytes;

@@ -43,8 +43,8 @@ fn put_answer<'a>(out: &mut [u8], s: &'a [u8], t: &'a [u8], q: Question) -> usiz
         2 => put_base_row(out, t),
         3 => answer::put_tested(out, table::check(t)),
         4 => answer::put_tested(out, table::opening(s, number, t)),
-        5 => answer::put_looked(out, table::lookup(s, number, t, wanted, place)),
-        6 => answer::put_view(out, table::lookup_view(s, number, t, wanted, place)),
+        5 => answer::put_looked(out, lookup::lookup(s, number, t, wanted, place)),
+        6 => answer::put_view(out, lookup::lookup_view(s, number, t, wanted, place)),
         _ => 0,
     }
 }

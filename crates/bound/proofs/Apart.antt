@@ -8,11 +8,11 @@ use Rattle.fields.specs.declared.RecordNumber.{RecordNumber}
 use Rattle.fields.proofs.Cases.{both}
 use Rattle.list.specs.Entry.{entryOf}
 use Rattle.list.specs.declared.Entry.{Entry}
-use Rattle.items.specs.State.{noKey, partOf as listPart}
-use Rattle.items.specs.declared.Rest.{Rest}
-use Rattle.parts.specs.Part.{partOf}
+use Rattle.turns.specs.State.{noKey, partOf as listPart}
+use Rattle.turns.specs.declared.Rest.{Rest}
+use Rattle.part.specs.Part.{partOf}
 use Rattle.parts.specs.Parts.{Stepped, lists, stops, cursor, stepAfter, stepPart, stepJoined, stepKeyed, stepEntered, stepIn, Listing, partsAfter, partsRun, partsFrom, partsIn}
-use Rattle.parts.specs.declared.Part.{Part}
+use Rattle.part.specs.declared.Part.{Part}
 use Rattle.parts.specs.declared.Cursor.{Cursor}
 use Rattle.bound.specs.Run.{Spot, gaveAfter, gaveRun, gaveFrom, gaveIn, itemsOf}
 use Rattle.bound.proofs.Facts.{Sized, both-by}

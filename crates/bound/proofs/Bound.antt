@@ -11,11 +11,11 @@ use Rattle.fields.specs.Answer.{Answer, gives, ends, refuses}
 use Rattle.fields.specs.Walk.{stop, go}
 use Rattle.fields.specs.declared.RecordNumber.{RecordNumber}
 use Rattle.fields.proofs.Walks.{walked, stop-go, go-stop, the-stop, the-go}
-use Rattle.items.specs.State.{freshOf}
-use Rattle.items.specs.Turn.{Small, passes, answers, smallStep}
-use Rattle.items.specs.Items.{Left, Going, going, never, measure, turnAfter, turn, nextIn}
-use Rattle.items.specs.declared.State.{State}
-use Rattle.items.specs.declared.Item.{Item}
+use Rattle.items.specs.Start.{freshOf}
+use Rattle.turns.specs.Turn.{Small, passes, answers}
+use Rattle.items.specs.Items.{smallStep, Left, Going, going, never, measure, turnAfter, turn, nextIn}
+use Rattle.turns.specs.declared.State.{State}
+use Rattle.turns.specs.declared.Item.{Item}
 use Rattle.items.proofs.Kept.{falls}
 use Rattle.parts.specs.Parts.{partsIn}
 use Rattle.bound.specs.Run.{Spot, spot, countAfter, countNext, countRun, countFrom, countOf, spotsOf, itemsAfter, itemsNext, itemsRun, itemsOf}

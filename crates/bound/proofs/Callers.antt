@@ -15,11 +15,12 @@ use Rattle.table.specs.Check.{openTable}
 use Rattle.table.specs.Held.{recordOf}
 use Rattle.table.specs.declared.Numbers.{Numbers}
 use Rattle.table.proofs.Sound.{sound, opened}
-use Rattle.items.specs.State.{freshOf, Lies, insideOf}
+use Rattle.turns.specs.State.{Lies}
+use Rattle.items.specs.Start.{freshOf, insideOf}
 use Rattle.items.specs.Items.{Left, leaves, nextIn, nextAfter, nextOf}
-use Rattle.items.specs.declared.State.{State}
-use Rattle.items.specs.declared.Item.{Item}
-use Rattle.items.specs.declared.Rest.{Rest}
+use Rattle.turns.specs.declared.State.{State}
+use Rattle.turns.specs.declared.Item.{Item}
+use Rattle.turns.specs.declared.Rest.{Rest}
 use Rattle.items.proofs.Rests.{no-list-lies}
 use Rattle.items.proofs.Kept.{next-lies, item-lies}
 use Rattle.parts.specs.Parts.{Listing, partsIn, partsOpened, partsOf}

@@ -9,8 +9,8 @@ use Rattle.fields.specs.Answer.{Answer, gives, ends, refuses}
 use Rattle.fields.specs.declared.RecordNumber.{RecordNumber}
 use Rattle.fields.specs.declared.Refusal.{Refusal}
 use Rattle.items.specs.Items.{measure, nextIn}
-use Rattle.items.specs.declared.State.{State}
-use Rattle.items.specs.declared.Item.{Item}
+use Rattle.turns.specs.declared.State.{State}
+use Rattle.turns.specs.declared.Item.{Item}
 use Rattle.items.proofs.Kept.{next-sinks}
 use Rattle.parts.specs.Parts.{partsIn}
 use Rattle.bound.specs.Run.{Spot, countAfter, countNext, countRun, countFrom, spotsOf, itemsAfter, itemsNext, itemsRun}

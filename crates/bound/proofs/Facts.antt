@@ -18,12 +18,12 @@ use Rattle.raw.proofs.Finds.{few-reads}
 use Rattle.list.specs.Entry.{entryOf}
 use Rattle.list.specs.declared.Entry.{Entry}
 use Rattle.list.proofs.Given as entries
-use Rattle.table.specs.Lookup.{soughtIn, lookupIn}
+use Rattle.lookup.specs.Lookup.{soughtIn, lookupIn}
 use Rattle.table.proofs.Holds.{the-some}
-use Rattle.table.proofs.Looks.{sought}
-use Rattle.items.specs.State.{partOf}
-use Rattle.items.specs.declared.Rest.{Rest}
-use Rattle.items.proofs.Turns.{entry-inside}
+use Rattle.lookup.proofs.Looks.{sought}
+use Rattle.turns.specs.State.{partOf}
+use Rattle.turns.specs.declared.Rest.{Rest}
+use Rattle.turns.proofs.Turns.{entry-inside}
 
 -- no record that is looked up is longer than the base record
 abbrev pub Sized : List ℕ → (RecordNumber → Option (List ℕ)) → Type 0

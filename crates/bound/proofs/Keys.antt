@@ -9,10 +9,10 @@ use Rattle.fields.specs.Answer.{Answer, gives, ends, refuses}
 use Rattle.fields.specs.declared.RecordNumber.{RecordNumber}
 use Rattle.fields.proofs.Cases.{yes}
 use Rattle.list.specs.declared.Entry.{Entry}
-use Rattle.items.specs.State.{noKey}
-use Rattle.items.specs.Key.{agrees, keyOf}
-use Rattle.items.specs.declared.Key.{Key}
-use Rattle.parts.specs.Join.{judgePart, keyFor}
+use Rattle.turns.specs.State.{noKey}
+use Rattle.turns.specs.Key.{agrees, keyOf}
+use Rattle.turns.specs.declared.Key.{Key}
+use Rattle.part.specs.Join.{judgePart, keyFor}
 use Rattle.bound.proofs.Facts.{by-test}
 
 -- an item's key is set

@@ -12,15 +12,16 @@ use Rattle.fields.specs.declared.RecordNumber.{RecordNumber}
 use Rattle.fields.proofs.Cases.{both}
 use Rattle.fields.proofs.Opens.{not-true}
 use Rattle.raw.specs.Step.{stepAt}
-use Rattle.raw.specs.Value.{listIn}
+use Rattle.values.specs.Value.{listIn}
 use Rattle.raw.specs.declared.Attribute.{Attribute}
-use Rattle.raw.specs.declared.Span.{Span}
+use Rattle.values.specs.declared.Span.{Span}
 use Rattle.raw.proofs.Given.{of-step}
 use Rattle.list.specs.Entry.{entryOf}
 use Rattle.list.specs.declared.Entry.{Entry}
-use Rattle.items.specs.State.{partOf}
-use Rattle.items.specs.Turn.{Small, passes, answers, closed, past, foundTurn, soughtTurn, lookedTurn, givenTurn, entryAfter, entryTurn, listTurn, rawAfter, rawTurn, smallStep}
-use Rattle.items.specs.declared.State.{State}
+use Rattle.turns.specs.State.{partOf}
+use Rattle.turns.specs.Turn.{Small, passes, answers, closed, past, foundTurn, soughtTurn, lookedTurn, givenTurn, entryAfter, entryTurn, listTurn, rawAfter, rawTurn}
+use Rattle.items.specs.Items.{smallStep}
+use Rattle.turns.specs.declared.State.{State}
 
 -- from w to v the raw walk goes on, or stands and an open list is the one that was open
 abbrev pub Held : State → State → Type 0

@@ -16,15 +16,16 @@ use Rattle.fields.proofs.Answers.{refused-given}
 use Rattle.table.specs.Check.{tableOf}
 use Rattle.table.specs.Held.{Held, recordOf, baseOf}
 use Rattle.table.specs.declared.Numbers.{Numbers}
-use Rattle.items.specs.State.{freshOf}
+use Rattle.items.specs.Start.{freshOf}
 use Rattle.items.specs.Items.{measure, nextIn}
-use Rattle.items.specs.declared.State.{State}
-use Rattle.items.specs.declared.Item.{Item}
+use Rattle.turns.specs.declared.State.{State}
+use Rattle.turns.specs.declared.Item.{Item}
 use Rattle.items.proofs.Kept.{next-sinks}
 use Rattle.bound.specs.Run.{countAfter, countNext, countRun, countFrom, countOf}
 use Rattle.bound.proofs.Third.{Third, third, table-sized}
 use Rattle.line.specs.Lines.{Text, recordLine, endLine, stoppedLine}
-use Rattle.lines.specs.Listing.{room, partsFor, itemLines, linesAfter, linesNext, linesRun, walkLines, openedLines, tableRefused, baseLines, checkedLines, listingOf}
+use Rattle.lines.specs.Listing.{itemLines, linesAfter, linesNext, linesRun, walkLines, openedLines, tableRefused, baseLines, checkedLines, listingOf}
+use Rattle.gather.specs.Gather.{room, partsFor}
 
 -- lines whose last is `end reads c` or `stopped N reads c`
 pub data Last (c : ℕ) : List Text → Type 0 where

@@ -14,19 +14,20 @@ use Rattle.fields.specs.declared.RecordNumber.{RecordNumber}
 use Rattle.fields.proofs.Cases.{both}
 use Rattle.fields.proofs.Opens.{not-true}
 use Rattle.raw.specs.Step.{stepAt}
-use Rattle.raw.specs.Value.{listIn}
+use Rattle.values.specs.Value.{listIn}
 use Rattle.raw.specs.declared.Attribute.{Attribute}
-use Rattle.raw.specs.declared.Span.{Span}
+use Rattle.values.specs.declared.Span.{Span}
 use Rattle.raw.proofs.Given.{Given, of-step}
-use Rattle.raw.proofs.Spans.{list-short}
+use Rattle.values.proofs.Spans.{list-short}
 use Rattle.list.specs.declared.Entry.{Entry}
-use Rattle.table.specs.Lookup.{lookupIn}
-use Rattle.items.specs.State.{noList, listAt, state, partOf as listPart}
-use Rattle.items.specs.Key.{agrees, keyOf}
-use Rattle.items.specs.Turn.{Small, passes, answers, closed, pastWith, past, cleared, passed, foundTurn, soughtTurn, lookedTurn, givenTurn, entryAfter, entryTurn, listTurn, rawAfter, rawTurn, smallStep}
-use Rattle.items.specs.declared.State.{State}
-use Rattle.items.specs.declared.Item.{Item}
-use Rattle.items.specs.declared.Rest.{Rest}
+use Rattle.lookup.specs.Lookup.{lookupIn}
+use Rattle.turns.specs.State.{noList, listAt, state, partOf as listPart}
+use Rattle.turns.specs.Key.{agrees, keyOf}
+use Rattle.turns.specs.Turn.{Small, passes, answers, closed, pastWith, past, cleared, passed, foundTurn, soughtTurn, lookedTurn, givenTurn, entryAfter, entryTurn, listTurn, rawAfter, rawTurn}
+use Rattle.items.specs.Items.{smallStep}
+use Rattle.turns.specs.declared.State.{State}
+use Rattle.turns.specs.declared.Item.{Item}
+use Rattle.turns.specs.declared.Rest.{Rest}
 use Rattle.parts.specs.Parts.{partsIn}
 use Rattle.bound.specs.Run.{Spot, spot, gaveIn, spotsOf}
 use Rattle.bound.proofs.Value.{R, E, R-step, E-step, E-mono, val, val-pass, val-raw, val-entry, val-item, val-one, val-some}

@@ -15,14 +15,15 @@ use Rattle.raw.proofs.Finds as finds
 use Rattle.raw.proofs.Given.{Given, of-step}
 use Rattle.list.specs.Entry.{entryOf}
 use Rattle.list.specs.declared.Entry.{Entry}
-use Rattle.table.specs.Lookup.{lookupIn}
-use Rattle.items.specs.State.{freshOf, noKey, partOf as listPart}
+use Rattle.lookup.specs.Lookup.{lookupIn}
+use Rattle.turns.specs.State.{noKey, partOf as listPart}
+use Rattle.items.specs.Start.{freshOf}
 use Rattle.items.specs.Items.{going, never, measure, turn, nextIn}
-use Rattle.items.specs.declared.State.{State}
-use Rattle.items.specs.declared.Item.{Item}
-use Rattle.items.specs.declared.Rest.{Rest}
+use Rattle.turns.specs.declared.State.{State}
+use Rattle.turns.specs.declared.Item.{Item}
+use Rattle.turns.specs.declared.Rest.{Rest}
 use Rattle.items.proofs.Kept.{falls}
-use Rattle.parts.specs.Join.{judgePart, keyFor}
+use Rattle.part.specs.Join.{judgePart, keyFor}
 use Rattle.parts.specs.Parts.{Stepped, lists, stops, cursor, stepIn}
 use Rattle.parts.specs.declared.Cursor.{Cursor}
 use Rattle.bound.specs.Trail.{Read, own, entry, sought, joined, seen, findTrail, rawTrail, lookedTrail, lookupTrail, searchTrail, entryTrail, stepTrail, nextTrail, joinTrail, keyedTrail, enteredTrail, partTrail, partsOnward, partsTrailRun, partsTrail, trailAfter, trailNext, trailFrom, trailOf}

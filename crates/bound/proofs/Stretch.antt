@@ -14,15 +14,15 @@ use Rattle.fields.proofs.Answers.{the-given}
 use Rattle.fields.proofs.Opens.{not-true}
 use Rattle.list.specs.Entry.{entryOf}
 use Rattle.list.specs.declared.Entry.{Entry}
-use Rattle.table.specs.Lookup.{lookupIn}
-use Rattle.items.specs.State.{listAt, noKey, partOf as listPart}
-use Rattle.items.specs.Key.{agrees, keyOf}
-use Rattle.items.specs.declared.Rest.{Rest}
-use Rattle.items.specs.declared.Key.{Key}
-use Rattle.parts.specs.Join.{judgePart, keyFor}
-use Rattle.parts.specs.Part.{partFound, partLooked, partOf}
+use Rattle.lookup.specs.Lookup.{lookupIn}
+use Rattle.turns.specs.State.{listAt, noKey, partOf as listPart}
+use Rattle.turns.specs.Key.{agrees, keyOf}
+use Rattle.turns.specs.declared.Rest.{Rest}
+use Rattle.turns.specs.declared.Key.{Key}
+use Rattle.part.specs.Join.{judgePart, keyFor}
+use Rattle.part.specs.Part.{partFound, partLooked, partOf}
 use Rattle.parts.specs.Parts.{Stepped, lists, stops, cursor, cursorPast, stepAfter, stepPart, stepJoined, stepKeyed, stepEntered, stepIn, Listing, partsAfter, partsRun, partsFrom, partsIn}
-use Rattle.parts.specs.declared.Part.{Part}
+use Rattle.part.specs.declared.Part.{Part}
 use Rattle.parts.specs.declared.Cursor.{Cursor}
 use Rattle.bound.specs.Run.{Spot, spot, gaveAfter, gaveRun, gaveFrom, gaveIn}
 use Rattle.bound.proofs.Value.{E, E-step, pay-part, pay-last}

@@ -13,7 +13,7 @@ use Rattle.table.specs.Held.{recordOf}
 use Rattle.table.specs.declared.Numbers.{Numbers}
 use Rattle.table.proofs.Sound.{sound, opened}
 use Rattle.table.proofs.Holds.{record-sized}
-use Rattle.items.specs.declared.Rest.{Rest}
+use Rattle.turns.specs.declared.Rest.{Rest}
 use Rattle.parts.specs.Parts.{partsIn}
 use Rattle.bound.specs.Run.{Spot, countOf, gaveIn, itemsOf}
 use Rattle.bound.specs.Trail.{trailOf, ownOf}

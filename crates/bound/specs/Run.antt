@@ -5,11 +5,12 @@ use mathlib.Core.Option.{Option}
 use Rattle.fields.specs.Pick.{pick}
 use Rattle.fields.specs.Answer.{Answer, gives, ends, refuses}
 use Rattle.fields.specs.declared.RecordNumber.{RecordNumber}
-use Rattle.items.specs.State.{freshOf, noKey}
+use Rattle.turns.specs.State.{noKey}
+use Rattle.items.specs.Start.{freshOf}
 use Rattle.items.specs.Items.{Left, measure, nextIn}
-use Rattle.items.specs.declared.State.{State}
-use Rattle.items.specs.declared.Item.{Item}
-use Rattle.items.specs.declared.Rest.{Rest}
+use Rattle.turns.specs.declared.State.{State}
+use Rattle.turns.specs.declared.Item.{Item}
+use Rattle.turns.specs.declared.Rest.{Rest}
 use Rattle.parts.specs.Parts.{Stepped, lists, stops, cursor, stepIn, partsIn}
 use Rattle.parts.specs.declared.Cursor.{Cursor}
 

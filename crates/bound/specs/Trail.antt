@@ -15,15 +15,16 @@ use Rattle.raw.specs.Find as find
 use Rattle.raw.specs.declared.Attribute.{Attribute}
 use Rattle.list.specs.Entry.{entryOf}
 use Rattle.list.specs.declared.Entry.{Entry}
-use Rattle.table.specs.Lookup.{lookupIn}
-use Rattle.items.specs.State.{freshOf, noKey, partOf as listPart}
-use Rattle.items.specs.Key.{agrees}
+use Rattle.lookup.specs.Lookup.{lookupIn}
+use Rattle.turns.specs.State.{noKey, partOf as listPart}
+use Rattle.items.specs.Start.{freshOf}
+use Rattle.turns.specs.Key.{agrees}
 use Rattle.items.specs.Items.{Left, going, measure, turn, nextIn}
-use Rattle.items.specs.declared.State.{State}
-use Rattle.items.specs.declared.Item.{Item}
-use Rattle.items.specs.declared.Key.{Key}
-use Rattle.items.specs.declared.Rest.{Rest}
-use Rattle.parts.specs.Join.{judgePart, keyFor}
+use Rattle.turns.specs.declared.State.{State}
+use Rattle.turns.specs.declared.Item.{Item}
+use Rattle.turns.specs.declared.Key.{Key}
+use Rattle.turns.specs.declared.Rest.{Rest}
+use Rattle.part.specs.Join.{judgePart, keyFor}
 use Rattle.parts.specs.Parts.{Stepped, lists, stops, cursor, stepIn}
 use Rattle.parts.specs.declared.Cursor.{Cursor}
 

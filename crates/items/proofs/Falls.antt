@@ -1,5 +1,5 @@
 -- Every small step that passes on or gives an item lowers the measure, no other raises it, and each leaves a list that lies inside the record.
-use Prim.Native.Nat.{ℕ, _+_, _≤_, _<_}
+use Prim.Native.Nat.{ℕ, _≤_, _<_}
 use mathlib.Core.Path.{_≡_, refl, subst}
 use mathlib.Core.Bool.{Bool, true, false}
 use mathlib.Core.List.{List}
@@ -7,28 +7,26 @@ use mathlib.Core.Option.{Option}
 use native.Mathlib.Omega.{arith}
 use lib.ListN.{length}
 use Rattle.fields.specs.Pick.{pick}
-use Rattle.fields.specs.Answer.{Answer, gives, ends, refuses, refusal}
+use Rattle.fields.specs.Answer.{Answer, gives, ends, refuses}
 use Rattle.fields.specs.declared.RecordNumber.{RecordNumber}
 use Rattle.fields.proofs.Cases.{both}
 use Rattle.fields.proofs.Opens.{not-true}
 use Rattle.raw.specs.Step.{stepAt}
-use Rattle.raw.specs.Value.{listIn}
-use Rattle.raw.specs.Find.{findOf}
+use Rattle.values.specs.Value.{listIn}
 use Rattle.raw.specs.declared.Attribute.{Attribute}
-use Rattle.raw.specs.declared.Span.{Span}
+use Rattle.values.specs.declared.Span.{Span}
 use Rattle.raw.proofs.Given.{Given, of-step, inside}
-use Rattle.raw.proofs.Spans.{list-fits, list-short}
+use Rattle.values.proofs.Spans.{list-fits, list-short}
 use Rattle.list.specs.Entry.{entryOf}
 use Rattle.list.specs.declared.Entry.{Entry}
 use Rattle.list.proofs.Given as entries
-use Rattle.table.specs.Lookup.{lookupIn}
-use Rattle.items.specs.State.{partOf, Lies}
-use Rattle.items.specs.Turn.{Small, passes, answers, closed, pastWith, passed, foundTurn, soughtTurn, lookedTurn, givenTurn, entryAfter, entryTurn, listTurn, rawAfter, rawTurn, smallStep}
-use Rattle.items.specs.Items.{measure}
-use Rattle.items.specs.declared.State.{State}
-use Rattle.items.specs.declared.Rest.{Rest}
-use Rattle.items.specs.declared.Key.{Key}
-use Rattle.items.proofs.Turns.{entry-inside}
+use Rattle.turns.specs.State.{partOf, Lies}
+use Rattle.turns.specs.Turn.{Small, passes, answers, closed, pastWith, passed, foundTurn, soughtTurn, lookedTurn, givenTurn, entryAfter, entryTurn, listTurn, rawAfter, rawTurn}
+use Rattle.items.specs.Items.{smallStep, measure}
+use Rattle.turns.specs.declared.State.{State}
+use Rattle.turns.specs.declared.Rest.{Rest}
+use Rattle.turns.specs.declared.Key.{Key}
+use Rattle.turns.proofs.Turns.{entry-inside}
 
 module _ (s : List ℕ) where
   -- a small step from w: lower where it passes on or gives an item, else not higher; and its list lies inside the record, where w's did

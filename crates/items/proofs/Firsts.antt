@@ -1,7 +1,7 @@
 -- The first of a type takes item after item, each of which lowers the walk's measure, so it ends. And how the opening checks lead to a walk.
 use Prim.Native.Nat.{ℕ, _+_, _≤_, _<_}
 use mathlib.Core.Path.{_≡_, refl, sym, ap, _∙_, subst}
-use mathlib.Core.Bool.{Bool, true, false}
+use mathlib.Core.Bool.{Bool, true}
 use mathlib.Core.List.{List}
 use mathlib.Core.Option.{Option}
 use native.Mathlib.Omega.{arith}
@@ -15,18 +15,18 @@ use Rattle.fields.specs.declared.RecordNumber.{RecordNumber}
 use Rattle.fields.specs.declared.Refusal.{Refusal}
 use Rattle.fields.proofs.Cases.{not-first, not-second}
 use Rattle.fields.proofs.Answers.{refused-given}
-use Rattle.fields.proofs.Opens.{not-true}
 use Rattle.fields.proofs.Walks.{Falls, on-stop, on-go, stop-go, the-go}
 use Rattle.table.specs.Held.{recordOf}
 use Rattle.table.specs.declared.Numbers.{Numbers}
-use Rattle.items.specs.State.{freshOf, Lies, insideOf}
-use Rattle.items.specs.Turn.{toldItem}
+use Rattle.turns.specs.State.{Lies}
+use Rattle.items.specs.Start.{insideOf}
+use Rattle.turns.specs.Turn.{toldItem}
 use Rattle.items.specs.Items.{Left, leaves, toldNext, Going, going, measure, nextIn, nextAfter}
 use Rattle.items.specs.First.{countedItem, firstAfter, firstFrom, firstTurn, firstWalk, firstIn, firstAfterOpening}
-use Rattle.items.specs.declared.State.{State}
-use Rattle.items.specs.declared.Rest.{Rest}
-use Rattle.items.specs.declared.Item.{Item}
-use Rattle.items.specs.declared.ItemStep.{ItemStep}
+use Rattle.turns.specs.declared.State.{State}
+use Rattle.turns.specs.declared.Rest.{Rest}
+use Rattle.turns.specs.declared.Item.{Item}
+use Rattle.turns.specs.declared.ItemStep.{ItemStep}
 use Rattle.items.specs.declared.Walked.{Walked}
 use Rattle.items.proofs.Kept.{next-sinks}
 

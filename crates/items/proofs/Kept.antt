@@ -13,13 +13,13 @@ use Rattle.fields.specs.declared.RecordNumber.{RecordNumber}
 use Rattle.fields.proofs.Cases.{yes, no}
 use Rattle.fields.proofs.Answers.{ended-given, refused-given, the-given}
 use Rattle.fields.proofs.Walks.{Falls, on-stop, on-go, walked, stop-go, go-stop, the-stop, the-go}
-use Rattle.items.specs.State.{Lies}
-use Rattle.items.specs.Turn.{Small, passes, answers, entryTurn, rawTurn, smallStep}
-use Rattle.items.specs.Items.{Left, leaves, Going, going, never, measure, turnAfter, turn, nextFrom, nextIn}
-use Rattle.items.specs.declared.State.{State}
-use Rattle.items.specs.declared.Item.{Item}
+use Rattle.turns.specs.State.{Lies}
+use Rattle.turns.specs.Turn.{Small, passes, answers, entryTurn, rawTurn}
+use Rattle.items.specs.Items.{smallStep, Left, leaves, Going, going, never, measure, turnAfter, turn, nextFrom, nextIn}
+use Rattle.turns.specs.declared.State.{State}
+use Rattle.turns.specs.declared.Item.{Item}
 use Rattle.items.proofs.Rests.{Rested, rested}
-use Rattle.items.proofs.Falls.{Sinks, Stays, Fair, stays, fair}
+use Rattle.items.proofs.Falls.{Sinks, Fair, fair}
 
 module _ (s : List ℕ) (n : RecordNumber) (look : RecordNumber → Option (List ℕ)) where
   abbrev left : Going → ℕ

@@ -1,22 +1,20 @@
 -- An item found by an entry has the list that was open, any other has none: so an item's list lies inside the record where the state's did.
-use Prim.Native.Nat.{ℕ, _+_}
-use mathlib.Core.Path.{_≡_, refl}
-use mathlib.Core.Bool.{Bool, true, false}
+use Prim.Native.Nat.{ℕ}
 use mathlib.Core.List.{List}
 use mathlib.Core.Option.{Option}
 use lib.ListN.{length}
-use Rattle.fields.specs.Pick.{pick}
 use Rattle.fields.specs.Answer.{Answer, gives, ends, refuses}
 use Rattle.fields.specs.declared.RecordNumber.{RecordNumber}
 use Rattle.fields.proofs.Cases.{both}
 use Rattle.fields.proofs.Opens.{not-true}
-use Rattle.raw.specs.Value.{listIn}
+use Rattle.values.specs.Value.{listIn}
 use Rattle.raw.specs.declared.Attribute.{Attribute}
-use Rattle.raw.specs.declared.Span.{Span}
+use Rattle.values.specs.declared.Span.{Span}
 use Rattle.list.specs.declared.Entry.{Entry}
-use Rattle.items.specs.State.{noList, Lies}
-use Rattle.items.specs.Turn.{Small, passes, answers, foundTurn, soughtTurn, lookedTurn, givenTurn, entryAfter, entryTurn, listTurn, rawAfter, rawTurn, smallStep}
-use Rattle.items.specs.declared.State.{State}
+use Rattle.turns.specs.State.{noList, Lies}
+use Rattle.turns.specs.Turn.{Small, passes, answers, foundTurn, soughtTurn, lookedTurn, givenTurn, entryAfter, entryTurn, listTurn, rawAfter, rawTurn}
+use Rattle.items.specs.Items.{smallStep}
+use Rattle.turns.specs.declared.State.{State}
 
 module _ (s : List ℕ) where
   pub no-list-lies : Lies (length s) noList

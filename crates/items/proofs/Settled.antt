@@ -1,14 +1,13 @@
 -- Two results that both meet a contract of this crate are equal: what each answer says can be read back into it.
-use Prim.Native.Nat.{ℕ}
-use mathlib.Core.Path.{_≡_, refl, sym, ap, _∙_}
+use mathlib.Core.Path.{_≡_, refl, ap}
 use Rattle.fields.specs.Answer.{Answer, Counted}
 use Rattle.fields.proofs.Settled.{readBack, settled, nothing}
-use Rattle.items.specs.Turn.{toldItem}
+use Rattle.turns.specs.Turn.{toldItem}
 use Rattle.items.specs.Items.{Left, toldNext}
 use Rattle.items.specs.First.{toldFirstItem, toldFirst}
-use Rattle.items.specs.declared.Item.{Item}
-use Rattle.items.specs.declared.ItemStep.{ItemStep}
-use Rattle.items.specs.declared.ItemStep.the-variants as step
+use Rattle.turns.specs.declared.Item.{Item}
+use Rattle.turns.specs.declared.ItemStep.{ItemStep}
+use Rattle.turns.specs.declared.ItemStep.the-variants as step
 use Rattle.items.specs.declared.Walked.{Walked}
 use Rattle.items.specs.declared.FirstItem.{FirstItem}
 use Rattle.items.specs.declared.FirstItem.the-variants as first

@@ -11,9 +11,9 @@ use Rattle.fields.specs.declared.RecordNumber.{RecordNumber}
 use Rattle.table.specs.Check.{openTable}
 use Rattle.table.specs.Held.{recordOf}
 use Rattle.table.specs.declared.Numbers.{Numbers}
-use Rattle.items.specs.State.{freshOf}
+use Rattle.items.specs.Start.{freshOf}
 use Rattle.items.specs.Items.{Left, Going, going, measure, nextIn}
-use Rattle.items.specs.declared.Item.{Item}
+use Rattle.turns.specs.declared.Item.{Item}
 use Rattle.items.specs.declared.First.{First}
 use Rattle.items.specs.declared.FirstItem.{FirstItem}
 use Rattle.items.specs.declared.FirstItem.the-variants as first

@@ -9,10 +9,11 @@ use Rattle.fields.specs.Walk as walks
 use Rattle.fields.specs.declared.RecordNumber.{RecordNumber}
 use Rattle.table.specs.Check.{openTable}
 use Rattle.table.specs.Held.{recordOf}
-use Rattle.items.specs.State.{noList, noKey, state, insideOf}
-use Rattle.items.specs.Turn.{toldItem, Small, passes, answers, smallStep}
-use Rattle.items.specs.declared.State.{State}
-use Rattle.items.specs.declared.Item.{Item}
+use Rattle.turns.specs.State.{noList, noKey, state}
+use Rattle.items.specs.Start.{insideOf}
+use Rattle.turns.specs.Turn.{toldItem, Small, passes, answers, entryTurn, rawTurn}
+use Rattle.turns.specs.declared.State.{State}
+use Rattle.turns.specs.declared.Item.{Item}
 use Rattle.items.specs.declared.Walked.{Walked}
 
 -- an answer of the walk with the state left and what the call read
@@ -52,13 +53,17 @@ abbrev pub mostReads : ℕ
 mostReads = 3158530
 
 module _ (s : List ℕ) (n : RecordNumber) (look : RecordNumber → Option (List ℕ)) where
+  -- "An open list is taken before the raw walk"
+  unfoldable pub smallStep : State → Small
+  smallStep w = pick (w .list .is) (entryTurn s n look w) (rawTurn s n w)
+
   -- what follows a small step after k reads
   unfoldable pub turnAfter : ℕ → Small → walks.Turn Going Left
   turnAfter k (passes w r) = walks.go (going w (k + r))
   turnAfter k (answers a w r) = walks.stop (leaves a w (k + r))
 
   unfoldable pub turn : Going → walks.Turn Going Left
-  turn g = turnAfter (g .reads) (smallStep s n look (g .at))
+  turn g = turnAfter (g .reads) (smallStep (g .at))
 
   abbrev pub nextFrom : Going → Left
   nextFrom g = walks.walk (λ x. measure s (x .at)) turn never g

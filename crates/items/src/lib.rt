@@ -4,52 +4,21 @@ pub mod inner;
 use fields::Opened;
 use fields::RecordNumber;
 use fields::Refusal;
-use raw::Attribute;
 use table::Tested;
+use turns::Item;
+use turns::ItemStep;
+use turns::Rest;
+use turns::State;
+use turns::inner::no_key;
+use turns::inner::no_list;
 ghost use mathlib.Core.Path.{_≡_};
-ghost use Rattle.items.specs.State.{freshOf, insideOf};
+ghost use Rattle.items.specs.Start.{freshOf, insideOf};
 ghost use Rattle.fields.specs.Answer.{refuses};
 ghost use Rattle.fields.specs.Open.{toldOpened};
 ghost use Rattle.items.specs.Items.{leaves, toldNext, nextOf};
 ghost use Rattle.items.specs.First.{toldFirst, firstOf};
 
-// The rest of a list, from its next entry on: whether there is one, where it begins and where it ends in the base record.
-// Where there is none, the two places mean nothing.
-pub struct Rest {
-    pub is: bool,
-    pub from: usize,
-    pub to: usize,
-}
-
-// What the walk passes over: entries of this type and instance, where there is a key. Where there is none, the two mean nothing.
-pub struct Key {
-    pub is: bool,
-    pub ty: u32,
-    pub instance: u16,
-}
-
-// Where a walk stands: the place of the next raw attribute, the open list, and the skip key.
-pub struct State {
-    pub raw: usize,
-    pub list: Rest,
-    pub key: Key,
-}
-
-// An item: the record that holds the attribute, the attribute, and for a non-resident one found by an entry the list from that entry on.
-pub struct Item {
-    pub file: RecordNumber,
-    pub attribute: Attribute,
-    pub rest: Rest,
-}
-
-// An answer of the walk.
-pub enum ItemStep {
-    Given(Item),
-    End,
-    Refused(Refusal),
-}
-
-// It, with the state left and what this call read.
+// An answer of the walk, with the state left and what this call read.
 pub struct Walked {
     pub answer: ItemStep,
     pub left: State,
@@ -67,27 +36,14 @@ pub struct First {
     pub reads: u64,
 }
 
-// What one turn of the walk says: go on, or answer.
-pub enum Kind {
-    Pass,
-    Stop(ItemStep),
-}
-
-// It, with the state left and what the turn read.
-pub struct Turn {
-    pub kind: Kind,
-    pub left: State,
-    pub reads: u64,
-}
-
 // A walk that begins: at the first attribute, with no list and no key.
 pub fn fresh(s: &[u8]) -> State
     ensures { λ r. ⌜ r ≡ freshOf (now (s .entry)) ⌝ }
 {
     State {
         raw: fields::first_attribute(s),
-        list: inner::no_list(),
-        key: inner::no_key(),
+        list: no_list(),
+        key: no_key(),
     }
 }
 

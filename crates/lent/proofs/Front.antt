@@ -6,7 +6,7 @@ use native.Mathlib.Omega.{arith}
 use lib.ListN.{length, take, drop, length-append, length-drop, take-append-drop}
 use lib.Seq.{drop-append-le}
 use Rattle.parts.specs.Parts.{Listing, filled}
-use Rattle.parts.specs.declared.Part.{Part}
+use Rattle.part.specs.declared.Part.{Part}
 use Rattle.lent.specs.Lent.{Fills}
 use Rattle.lent.specs.declared.Filled.{Filled}
 

@@ -5,7 +5,7 @@ use Prim.Native.Nat.{ℕ}
 use Rattle.fields.specs.Answer.{Answer}
 use Rattle.fields.proofs.Settled.{readBack, settled, nothing}
 use Rattle.parts.specs.Parts.{toldEnded, Listing}
-use Rattle.parts.specs.declared.Part.{Part}
+use Rattle.part.specs.declared.Part.{Part}
 use Rattle.parts.specs.declared.Ended.{Ended}
 use Rattle.parts.specs.declared.Ended.the-variants as ended
 use Rattle.lent.specs.Lent.{Fills}

@@ -1,20 +1,20 @@
 // The parts of an item written to a lent list, from its front. What is written, and when it ends, comes from `first` and `next`; the loop only writes.
 use fields::Opened;
 use fields::RecordNumber;
-use items::Rest;
+use part::Part;
 use parts::Collected;
 use parts::Cursor;
 use parts::Ended;
-use parts::Part;
 use parts::PartKind;
 use parts::PartTurn;
 use table::Numbers;
 use table::Tested;
+use turns::Rest;
 ghost use mathlib.Core.Path.{_≡_};
 ghost use Prim.Native.Nat.{_+_, _≤_, min};
 ghost use lib.ListN.{length};
 ghost use Rattle.table.specs.Held.{recordOf};
-ghost use Rattle.items.specs.State.{Ready, noKey};
+ghost use Rattle.turns.specs.State.{Ready, noKey};
 ghost use Rattle.parts.specs.Parts.{toldEnded, toldTurn, cursor, stepIn, partsOf, blankParts, Collects};
 ghost use Rattle.lent.specs.Lent.{Fills, Stands, Onward, Empty, Begins};
 
@@ -40,8 +40,8 @@ fn none(answer: Ended) -> Standing
     ensures { λ r. ⌜ Empty (toldEnded answer) r ⌝ }
 {
     let part = parts::inner::blank();
-    let list = items::inner::no_list();
-    let key = items::inner::no_key();
+    let list = turns::inner::no_list();
+    let key = turns::inner::no_key();
     let at = Cursor { list, key };
     let h = Numbers {
         count: 0,
@@ -118,7 +118,7 @@ fn start<'a>(
     requires { ⌜ (l .from ≤ l .to) × (l .to ≤ length (now base)) ⌝ }
     ensures { λ r. ⌜ Stands h 0 0 (stepIn (now (base .entry)) number (recordOf (now (t .entry))) room 0 (cursor l noKey)) r ⌝ }
 {
-    let key = items::inner::no_key();
+    let key = turns::inner::no_key();
     let c = Cursor { list: l, key };
     let m = parts::inner::step(base, number, t, h, room, 0, c);
     stand(m, h, 0, 0)

@@ -3,10 +3,10 @@ use Prim.Native.Nat.{ℕ}
 use mathlib.Core.List.{List, [], _∷_, _++_}
 use Rattle.fields.specs.Answer.{Answer, gives, ends, refuses}
 use Rattle.fields.specs.declared.RecordNumber.{RecordNumber}
-use Rattle.raw.specs.Value.{Value, inRecord, inRuns}
-use Rattle.raw.specs.declared.Span.{Span}
-use Rattle.items.specs.declared.Item.{Item}
-use Rattle.parts.specs.declared.Part.{Part}
+use Rattle.values.specs.Value.{Value, inRecord, inRuns}
+use Rattle.values.specs.declared.Span.{Span}
+use Rattle.turns.specs.declared.Item.{Item}
+use Rattle.part.specs.declared.Part.{Part}
 use Rattle.text.specs.Words.{told}
 
 -- a line, or a piece of one, as its bytes

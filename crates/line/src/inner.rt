@@ -1,18 +1,18 @@
 // The lines of the listing, each put behind the text so far, for callers that have shown that there is room. None is longer than 256 bytes.
 use crate::Gathered;
 use fields::RecordNumber;
-use items::Item;
 use parts::Ended;
-use raw::Spanned;
-use raw::Valued;
 use text::inner::put_byte;
 use text::inner::put_words;
+use turns::Item;
+use values::Spanned;
+use values::Valued;
 ghost use Prim.Native.Nat.{_+_, _≤_};
 ghost use mathlib.Core.Path.{_≡_};
 ghost use lib.ListN.{length};
 ghost use Rattle.fields.specs.Pick.{pick};
-ghost use Rattle.raw.specs.Span.{toldSpanned};
-ghost use Rattle.raw.specs.Value.{toldValued};
+ghost use Rattle.values.specs.Span.{toldSpanned};
+ghost use Rattle.values.specs.Value.{toldValued};
 ghost use Rattle.parts.specs.Parts.{toldEnded};
 ghost use Rattle.text.specs.Put.{Put};
 ghost use Rattle.line.specs.Lines.{recordLine, nameText, valueText, partsText, attrLine, numbersLine, endLine, stoppedLine, refusedLine};

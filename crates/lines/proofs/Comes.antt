@@ -17,16 +17,17 @@ use Rattle.table.specs.Held.{Held, baseOf}
 use Rattle.table.specs.declared.Numbers.{Numbers}
 use Rattle.fields.specs.declared.Refusal.{Refusal}
 use Rattle.items.specs.Items.{Left, measure, nextIn, toldNext}
-use Rattle.items.specs.Turn.{toldItem}
-use Rattle.items.specs.declared.State.{State}
-use Rattle.items.specs.declared.Item.{Item}
-use Rattle.items.specs.declared.ItemStep.{ItemStep}
+use Rattle.turns.specs.Turn.{toldItem}
+use Rattle.turns.specs.declared.State.{State}
+use Rattle.turns.specs.declared.Item.{Item}
+use Rattle.turns.specs.declared.ItemStep.{ItemStep}
 use Rattle.items.specs.declared.Walked.{Walked}
 use Rattle.items.proofs.Kept.{next-sinks}
-use Rattle.parts.specs.declared.Part.{Part}
+use Rattle.part.specs.declared.Part.{Part}
 use Rattle.line.specs.Lines.{Text, partNumbers, numbersLine, partLine, endLine, stoppedLine, refusedLine}
-use Rattle.lines.specs.Listing.{itemLine, itemLines, partsFor, linesAfter, linesNext, linesRun, walkLines, tableRefused, baseLines, checkedLines, listingOf}
-use Rattle.lines.specs.Making.{allNumbers, numberLines, partsToCome, toComeAt, toCome, anyAt}
+use Rattle.lines.specs.Listing.{itemLines, linesAfter, linesNext, linesRun, walkLines, tableRefused, baseLines, checkedLines, listingOf}
+use Rattle.gather.specs.Gather.{itemLine, partsFor, allNumbers}
+use Rattle.lines.specs.Making.{numberLines, partsToCome, toComeAt, toCome, anyAt}
 use Rattle.lines.specs.Pages.{any}
 use Rattle.lines.specs.declared.Making.{Making}
 use Rattle.lines.specs.declared.Stage.{Stage}

@@ -1,5 +1,4 @@
--- What the listing's proofs lean on: the parts' numbers, and the lines that are still to come.
-pub mod Gathers
+-- What the listing's proofs lean on: the lines that are still to come, and what a call tells of them.
 pub mod Comes
 pub mod Tellings
 pub mod Filled

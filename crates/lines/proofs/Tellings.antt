@@ -19,19 +19,21 @@ use Rattle.table.specs.Layout.{rowAt}
 use Rattle.table.specs.declared.Numbers.{Numbers}
 use Rattle.table.proofs.Sound as tables
 use Rattle.table.proofs.Holds.{base-held, none-some, the-some}
-use Rattle.items.specs.State.{Lies, Ready, state, noList, noKey, freshOf}
+use Rattle.turns.specs.State.{Lies, Ready, state, noList, noKey}
+use Rattle.items.specs.Start.{freshOf}
 use Rattle.items.specs.Items.{Left, mostReads, nextIn, toldNext}
-use Rattle.items.specs.Turn.{toldItem}
-use Rattle.items.specs.declared.State.{State}
-use Rattle.items.specs.declared.Item.{Item}
-use Rattle.items.specs.declared.ItemStep.{ItemStep}
+use Rattle.turns.specs.Turn.{toldItem}
+use Rattle.turns.specs.declared.State.{State}
+use Rattle.turns.specs.declared.Item.{Item}
+use Rattle.turns.specs.declared.ItemStep.{ItemStep}
 use Rattle.items.specs.declared.Walked.{Walked}
 use Rattle.items.proofs.Rests.{no-list-lies}
 use Rattle.items.proofs.Kept.{next-lies, item-lies, measure-small}
 use Rattle.text.specs.Put.{Put}
 use Rattle.line.specs.Lines.{Text, recordLine, numbersLine, partLine, refusedLine}
-use Rattle.lines.specs.Listing.{itemLine, partsFor, walkLines, openedLines, baseLines}
-use Rattle.lines.specs.Making.{baseBytes, baseNumber, Based, Gathers, numberLines, partsToCome, toComeAt, toCome, Going, SoundAt, Sound, Tells, ending, showing, noNumbers, stageOf, beginning}
+use Rattle.lines.specs.Listing.{walkLines, openedLines, baseLines}
+use Rattle.gather.specs.Gather.{itemLine, partsFor, Gathers}
+use Rattle.lines.specs.Making.{baseBytes, baseNumber, Based, numberLines, partsToCome, toComeAt, toCome, Going, SoundAt, Sound, Tells, ending, showing, noNumbers, stageOf, beginning}
 use Rattle.line.specs.declared.Gathered.{Gathered}
 use Rattle.lines.specs.declared.Making.{Making}
 use Rattle.lines.specs.declared.Stage.{Stage}

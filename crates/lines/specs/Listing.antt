@@ -5,64 +5,28 @@ use mathlib.Core.Option.{Option, none, some}
 use lib.Dec.{ltb}
 use lib.ListN.{length}
 use Rattle.fields.specs.Pick.{pick}
-use Rattle.fields.specs.Answer.{Answer, gives, ends, refuses, _⟫_}
+use Rattle.fields.specs.Answer.{Answer, gives, ends, refuses}
 use Rattle.fields.specs.Open.{openIn}
 use Rattle.fields.specs.declared.RecordNumber.{RecordNumber}
-use Rattle.raw.specs.Name.{nameOf}
-use Rattle.raw.specs.Value.{Value, valueOf}
-use Rattle.raw.specs.declared.Span.{Span}
 use Rattle.table.specs.Check.{tableOf}
 use Rattle.table.specs.Held.{Held, recordOf, baseOf}
-use Rattle.table.specs.Lookup.{lookupIn}
 use Rattle.table.specs.declared.Numbers.{Numbers}
-use Rattle.items.specs.State.{freshOf}
+use Rattle.items.specs.Start.{freshOf}
 use Rattle.items.specs.Items.{Left, measure, nextIn}
-use Rattle.items.specs.declared.State.{State}
-use Rattle.items.specs.declared.Item.{Item}
+use Rattle.turns.specs.declared.State.{State}
+use Rattle.turns.specs.declared.Item.{Item}
 use Rattle.parts.specs.Parts as parts
-use Rattle.parts.specs.declared.Part.{Part}
-use Rattle.line.specs.Lines.{Text, recordLine, nameText, valueText, partsText, attrLine, partLine, endLine, stoppedLine, refusedLine}
-
--- "size the first part's data size"; parts that are whole are one at least
-unfoldable pub firstSize : List Part → ℕ
-firstSize [] = 0
-firstSize (p ∷ ps) = p .size
-
--- the text of parts: how many, the size, and how they end
-unfoldable pub partsTextOf : parts.Listing → Text
-partsTextOf l = partsText (length (l .parts)) (firstSize (l .parts)) (l .answer)
-
--- "with room for 157 parts"
-abbrev pub room : ℕ
-room = 157
+use Rattle.line.specs.Lines.{Text, recordLine, partLine, endLine, stoppedLine, refusedLine}
+use Rattle.gather.specs.Gather.{partsFor, itemLine}
 
 module _ (s : List ℕ) (n : RecordNumber) (look : RecordNumber → Option (List ℕ)) where
-  -- the record that an item lies in. The walk has found it, so no refusal is printed, and no place
-  unfoldable pub recordFor : Item → Answer (List ℕ)
-  recordFor i = lookupIn s n look (i .file) 0
-
-  -- "A name or value call on an offset": those of the item's attribute
-  unfoldable pub nameFor : Item → Answer Span
-  nameFor i = recordFor i ⟫ λ x. nameOf x (i .file) (i .attribute .offset)
-
-  unfoldable pub valueFor : Item → Answer Value
-  valueFor i = recordFor i ⟫ λ x. valueOf x (i .file) (i .attribute .offset)
-
-  -- the item's parts, asked for once; an item without a list has none, and none are read
-  unfoldable pub partsFor : Item → parts.Listing
-  partsFor i = parts.partsIn s n look room (i .rest)
-
-  -- the line of an item: the parts where it has a list, else the value
-  unfoldable pub itemLine : Item → Text
-  itemLine i = attrLine i (nameText (nameFor i)) (pick (i .rest .is) (partsTextOf (partsFor i)) (valueText (valueFor i)))
-
   -- "each item is one line .., then K lines `part ..`"
   unfoldable pub itemLines : Item → List Text
-  itemLines i = itemLine i ∷ map partLine (partsFor i .parts)
+  itemLines i = itemLine s n look i ∷ map partLine (partsFor s n look i .parts)
 
   -- what follows an answer of the walk, after k reads; `on` makes the lines that come after an item's
   unfoldable pub linesAfter : (ℕ → State → List Text) → ℕ → State → Answer Item → List Text
-  linesAfter on k w (gives i) = itemLines i ++ on (k + partsFor i .reads) w
+  linesAfter on k w (gives i) = itemLines i ++ on (k + partsFor s n look i .reads) w
   linesAfter on k w ends = endLine k ∷ []
   linesAfter on k w (refuses r) = stoppedLine (r .number) k ∷ []
 

@@ -11,15 +11,13 @@ use Rattle.table.specs.Check.{tableOf}
 use Rattle.table.specs.Held.{recordAt, recordOf}
 use Rattle.table.specs.Layout.{rowAt}
 use Rattle.table.specs.declared.Numbers.{Numbers}
-use Rattle.items.specs.State.{Lies, state, noList, noKey, freshOf}
+use Rattle.turns.specs.State.{Lies, state, noList, noKey}
+use Rattle.items.specs.Start.{freshOf}
 use Rattle.items.specs.Items.{measure, mostReads}
-use Rattle.items.specs.declared.State.{State}
-use Rattle.parts.specs.Parts as parts
-use Rattle.parts.specs.declared.Part.{Part}
+use Rattle.turns.specs.declared.State.{State}
 use Rattle.text.specs.Put.{Put}
-use Rattle.line.specs.Lines.{Text, partNumbers, numbersLine, stoppedLine}
-use Rattle.lines.specs.Listing.{firstSize, walkLines, listingOf}
-use Rattle.line.specs.declared.Gathered.{Gathered}
+use Rattle.line.specs.Lines.{Text, numbersLine, stoppedLine}
+use Rattle.lines.specs.Listing.{walkLines, listingOf}
 use Rattle.lines.specs.declared.Making.{Making}
 use Rattle.lines.specs.declared.Stage.{Stage}
 use Rattle.lines.specs.declared.Stage.the-variants as stage
@@ -36,19 +34,6 @@ baseNumber t h = rowAt t h (h .base) .number
 pub record Based (t : List ℕ) (h : Numbers) (base : List ℕ) (n : RecordNumber) : Type 0 where
   pub bytes : base ≡ baseBytes t h
   pub number : n ≡ baseNumber t h
-
--- the numbers of parts, one part behind another
-unfoldable pub allNumbers : List Part → List ℕ
-allNumbers [] = []
-allNumbers (p ∷ ps) = partNumbers p ++ allNumbers ps
-
--- gathered parts: how many, the first one's size, how they end, what was read, and their numbers
-pub record Gathers (l : parts.Listing) (ns : List ℕ) (r : Gathered) : Type 0 where
-  pub count : r .count ≡ length (l .parts)
-  pub size : r .size ≡ firstSize (l .parts)
-  pub answer : parts.toldEnded (r .answer) ≡ l .answer
-  pub reads : r .reads ≡ l .reads
-  pub kept : take (5 * r .count) ns ≡ allNumbers (l .parts)
 
 -- k part lines, from their numbers
 unfoldable pub numberLines : ℕ → List ℕ → List Text

@@ -1,8 +1,8 @@
 // The listing of a table as a value: its lines, one a call or as many as a buffer holds.
 pub mod inner;
 
-use items::State;
 use table::Numbers;
+use turns::State;
 ghost use mathlib.Core.Path.{_≡_};
 ghost use lib.ListN.{length};
 ghost use Rattle.lines.specs.Listing.{listingOf};
@@ -49,8 +49,8 @@ pub fn start() -> Making
     };
     let walk = State {
         raw: 0,
-        list: items::inner::no_list(),
-        key: items::inner::no_key(),
+        list: turns::inner::no_list(),
+        key: turns::inner::no_key(),
     };
     Making {
         stage,

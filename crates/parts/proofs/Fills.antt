@@ -15,14 +15,12 @@ use Rattle.fields.proofs.Cases.{not-second}
 use Rattle.list.specs.Entry.{entryOf}
 use Rattle.list.specs.declared.Entry.{Entry}
 use Rattle.list.proofs.Given as entries
-use Rattle.items.specs.State.{noKey, partOf as listPart}
-use Rattle.items.specs.declared.Rest.{Rest}
-use Rattle.items.specs.declared.Key.{Key}
-use Rattle.items.proofs.Turns.{entry-inside}
-use Rattle.parts.specs.Join.{judgePart, keyFor}
-use Rattle.parts.specs.Part.{partOf}
+use Rattle.turns.specs.State.{noKey, partOf as listPart}
+use Rattle.turns.specs.declared.Rest.{Rest}
+use Rattle.turns.proofs.Turns.{entry-inside}
+use Rattle.part.specs.Join.{keyFor}
 use Rattle.parts.specs.Parts.{Stepped, lists, stops, toldKind, toldTurn, cursor, cursorPast, stepAfter, stepPart, stepJoined, stepKeyed, stepEntered, stepIn, Listing, listing, partsAfter, partsRun, partsFrom, filled}
-use Rattle.parts.specs.declared.Part.{Part}
+use Rattle.part.specs.declared.Part.{Part}
 use Rattle.parts.specs.declared.Cursor.{Cursor}
 use Rattle.parts.specs.declared.PartKind.{PartKind}
 use Rattle.parts.specs.declared.PartTurn.{PartTurn}

@@ -1,4 +1,2 @@
--- The definition's chapter on parts: what joins entries, the part that an entry leads to, and the parts one after another.
-pub mod Join
-pub mod Part
+-- The definition's chapter on the parts of an item.
 pub mod Parts

@@ -12,12 +12,13 @@ use Rattle.list.specs.Entry.{entryOf}
 use Rattle.list.specs.declared.Entry.{Entry}
 use Rattle.table.specs.Check.{openTable}
 use Rattle.table.specs.Held.{recordOf}
-use Rattle.items.specs.State.{listAt, noKey, partOf as listPart, insideOf}
-use Rattle.items.specs.declared.Rest.{Rest}
-use Rattle.items.specs.declared.Key.{Key}
-use Rattle.parts.specs.Join.{judgePart, keyFor}
-use Rattle.parts.specs.Part.{partOf}
-use Rattle.parts.specs.declared.Part.{Part}
+use Rattle.turns.specs.State.{listAt, noKey, partOf as listPart}
+use Rattle.items.specs.Start.{insideOf}
+use Rattle.turns.specs.declared.Rest.{Rest}
+use Rattle.turns.specs.declared.Key.{Key}
+use Rattle.part.specs.Join.{judgePart, keyFor}
+use Rattle.part.specs.Part.{partOf}
+use Rattle.part.specs.declared.Part.{Part}
 use Rattle.parts.specs.declared.Cursor.{Cursor}
 use Rattle.parts.specs.declared.Collected.{Collected}
 use Rattle.parts.specs.declared.Ended.{Ended}

@@ -4,43 +4,12 @@ pub mod inner;
 use fields::Opened;
 use fields::RecordNumber;
 use fields::Refusal;
-use fields::Vcn;
-use items::Key;
-use items::Rest;
-use raw::Span;
+use part::Part;
 use table::Tested;
+use turns::Key;
+use turns::Rest;
 ghost use Rattle.parts.specs.Parts.{listing, toldEnded, partsOf, blankParts, Collects};
 ghost use mathlib.Core.List.{[]};
-
-// A part: the record that holds it, its attribute's offset there, its own lowest VCN, where its run bytes stand in that record,
-// the data size, and the lowest VCN that its list entry tells.
-pub struct Part {
-    pub file: RecordNumber,
-    pub offset: usize,
-    pub lowest: Vcn,
-    pub runs: Span,
-    pub size: u64,
-    pub listed: Vcn,
-}
-
-// A part, or the refusal.
-pub enum PartRead {
-    Given(Part),
-    Refused(Refusal),
-}
-
-// It, with what was read for it.
-pub struct PartFound {
-    pub answer: PartRead,
-    pub reads: u64,
-}
-
-// Whether an entry goes on with the stream: it does, the parts end, or 6.
-pub enum Joined {
-    On,
-    End,
-    Refused(Refusal),
-}
 
 // How a list of parts ends: whole, or by a refusal.
 pub enum Ended {

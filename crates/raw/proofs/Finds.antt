@@ -1,5 +1,5 @@
 -- A search goes on by at least 16 bytes for each attribute it reads, so it ends, and reads at most a sixteenth of the record's length.
-use Prim.Native.Nat.{ℕ, _+_, _*_, _≤_, _<_, zero-le}
+use Prim.Native.Nat.{ℕ, _+_, _*_, _≤_, zero-le}
 use mathlib.Core.Path.{_≡_, refl, sym, ap, _∙_, subst}
 use mathlib.Core.Bool.{true}
 use mathlib.Core.Logic.{⊎-elim}

@@ -1,23 +1,17 @@
 -- Two results that both meet a contract of this crate are equal: what each answer says can be read back into it.
 use Prim.Native.Nat.{ℕ}
 use mathlib.Core.Path.{_≡_, refl}
-use mathlib.Core.List.{List}
 use mathlib.Core.Option.{Option, none, some}
 use Rattle.fields.specs.Answer.{Answer}
-use Rattle.fields.specs.declared.RecordNumber.{RecordNumber}
 use Rattle.fields.proofs.Settled.{readBack, settled, nothing}
 use Rattle.table.specs.Check.{toldTested}
-use Rattle.table.specs.Held.{toldRow, IsRow}
-use Rattle.table.specs.Lookup.{toldLooked}
+use Rattle.table.specs.Held.{toldRow}
 use Rattle.table.specs.declared.Numbers.{Numbers}
 use Rattle.table.specs.declared.Tested.{Tested}
 use Rattle.table.specs.declared.Tested.the-variants as tested
 use Rattle.table.specs.declared.RowFound.{RowFound}
 use Rattle.table.specs.declared.RowFound.the-variants as row
-use Rattle.table.specs.declared.Looked.{Looked}
-use Rattle.table.specs.declared.Looked.the-variants as looked
 use Rattle.table.proofs.Sound.{Sound}
-use Rattle.table.proofs.Holds.{one-answer}
 
 abbrev testedBack : Answer Numbers → Tested
 testedBack = readBack tested.Sound (tested.Refused nothing) tested.Refused
@@ -30,17 +24,6 @@ tested-read (tested.Refused r) = refl
 pub tested-settled : {r t : Tested} {a : Answer Numbers} → toldTested r ≡ a → toldTested t ≡ a → r ≡ t
 tested-settled p q = settled toldTested testedBack tested-read p q
 
-abbrev lookedBack : Answer Unit → Looked
-lookedBack = readBack (λ _. looked.Found) looked.Found looked.Refused
-
-looked-read : (r : Looked) → lookedBack (toldLooked r) ≡ r
-looked-read looked.Found = refl
-looked-read (looked.Refused r) = refl
-
--- `lookup`; what `lookup_view` hands back is stated outright
-pub looked-settled : {r t : Looked} {a : Answer Unit} → toldLooked r ≡ a → toldLooked t ≡ a → r ≡ t
-looked-settled p q = settled toldLooked lookedBack looked-read p q
-
 abbrev rowBack : Option ℕ → RowFound
 rowBack none = row.Missing
 rowBack (some i) = row.At i
@@ -52,7 +35,3 @@ row-read row.Missing = refl
 -- `base_row`
 pub row-settled : {r t : RowFound} {a : Option ℕ} → toldRow r ≡ a → toldRow t ≡ a → r ≡ t
 row-settled p q = settled toldRow rowBack row-read p q
-
--- `row_of`, in a table that passed check 21
-pub found-settled : {t : List ℕ} {h : Numbers} (s : Sound t h) (n : RecordNumber) (r q : RowFound) → IsRow t h n (toldRow r) → IsRow t h n (toldRow q) → r ≡ q
-found-settled s n r q i j = row-settled {r = r} {t = q} (one-answer s n (toldRow r) (toldRow q) i j) refl

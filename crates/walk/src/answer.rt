@@ -1,11 +1,11 @@
 // The answers of the item walk as words and decimal numbers. Each function is handed where the line ends, and gives where it then ends.
 use items::First;
 use items::FirstItem;
-use items::Item;
-use items::ItemStep;
-use items::Rest;
-use items::State;
 use items::Walked;
+use turns::Item;
+use turns::ItemStep;
+use turns::Rest;
+use turns::State;
 use words::put_byte;
 use words::put_refused;
 use words::put_text;

@@ -7,11 +7,11 @@ use fields::RecordNumber;
 use fields::inner::u16_at;
 use fields::inner::u32_at;
 use fields::inner::u64_at;
-use items::ItemStep;
-use items::Key;
-use items::Rest;
-use items::State;
 use libc::STDIN_FILENO;
+use turns::ItemStep;
+use turns::Key;
+use turns::Rest;
+use turns::State;
 use words::read_part;
 use words::write_line;
 

@@ -2,7 +2,7 @@
 use Rattle.table.specs.Check.{toldTested, openTable}
 use Rattle.items.proofs.Firsts.{first-refused, first-passed}
 use Rattle.items.specs.First.{firstOf}
-use Rattle.items.specs.Turn.{passed}
+use Rattle.turns.specs.Turn.{passed}
 use Rattle.fields.proofs.Answers.{told}
 use Rattle.fields.proofs.Opens.{opened-sized}
 use Rattle.fields.specs.Answer.{gives}

@@ -1,5 +1,5 @@
 -- The first attribute's offset, no list and no key.
-use Rattle.items.specs.State.{freshOf}
+use Rattle.items.specs.Start.{freshOf}
 use borrow.Author.Needs.{needs}
 use Rattle.items.proofs.fresh.Statement.{statement}
 use Rattle.items.proofs.fresh.Tie as tie

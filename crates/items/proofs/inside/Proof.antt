@@ -1,5 +1,5 @@
 -- Each return has the tests that led to it.
-use Rattle.items.specs.State.{insideOf}
+use Rattle.items.specs.Start.{insideOf}
 use Rattle.fields.proofs.Cases.{cases}
 use Rattle.items.proofs.inside.Statement.{statement}
 use Rattle.items.proofs.inside.Tie as tie

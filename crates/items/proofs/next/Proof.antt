@@ -2,7 +2,7 @@
 use Rattle.table.specs.Check.{toldTested, openTable}
 use Rattle.items.proofs.Firsts.{lies-of, next-refused, next-passed}
 use Rattle.items.specs.Items.{nextOf}
-use Rattle.items.specs.Turn.{passed}
+use Rattle.turns.specs.Turn.{passed}
 use Rattle.raw.proofs.Given.{inside}
 use Rattle.fields.proofs.Answers.{told, onward, halted}
 use Rattle.fields.proofs.Opens.{opened-sized}

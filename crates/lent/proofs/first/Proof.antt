@@ -1,5 +1,5 @@
 -- The opening checks decide: no parts, or those of the list, if there is one.
-use Rattle.items.specs.State.{Ready}
+use Rattle.turns.specs.State.{Ready}
 use Rattle.items.proofs.Firsts.{lies-of}
 use Rattle.table.proofs.Sound.{opened}
 use Rattle.table.specs.Check.{toldTested, openTable}

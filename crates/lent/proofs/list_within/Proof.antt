@@ -4,7 +4,7 @@ use Prim.Native.Nat.{ℕ}
 use mathlib.Core.Path.{_≡_, ap, subst}
 use mathlib.Core.List.{List}
 use Rattle.parts.specs.Parts.{Listing, blankParts, partsOf, Collects}
-use Rattle.parts.specs.declared.Part.{Part}
+use Rattle.part.specs.declared.Part.{Part}
 use Rattle.lent.specs.Lent.{Fills}
 use Rattle.lent.specs.declared.Taken.{Taken}
 use borrow.Author.Needs.{needs}

@@ -1,6 +1,6 @@
 -- The first step is made at the list's own entry, without a key.
 use Prim.Native.Nat.{ℕ}
-use Rattle.items.specs.declared.Key.{Key}
+use Rattle.turns.specs.declared.Key.{Key}
 use Rattle.table.specs.declared.Numbers.{Numbers}
 use Rattle.table.specs.Held.{recordOf}
 use Rattle.parts.specs.Parts.{Stepped, cursor, stepIn}

@@ -2,10 +2,10 @@
 use mathlib.Core.Path.{ap, _∙_}
 use Prim.Native.Nat.{_-_}
 use borrow.Author.Needs.{needs}
-use Rattle.items.specs.State.{state, noList}
-use Rattle.items.specs.declared.Key.{Key}
-use Rattle.items.specs.declared.State.{State}
-use Rattle.items.specs.declared.Rest.{Rest}
+use Rattle.turns.specs.State.{state, noList}
+use Rattle.turns.specs.declared.Key.{Key}
+use Rattle.turns.specs.declared.State.{State}
+use Rattle.turns.specs.declared.Rest.{Rest}
 use Rattle.lines.specs.Making.{noNumbers}
 use Rattle.lines.specs.declared.Making.{Making}
 use Rattle.lines.specs.declared.Stage.the-variants as stage

@@ -1,9 +1,10 @@
 -- What is first from where the loop stands is what is first from fresh. Each item lowers the measure.
 use Rattle.items.proofs.Firsts.{returned, again, first-refused}
 use Rattle.items.specs.First.{firstAfter, firstIn, firstWalk}
-use Rattle.items.specs.Items.{Left, Going, going, measure, mostReads, turn}
-use Rattle.items.specs.Turn.{toldItem}
-use Rattle.items.specs.State.{freshOf, Lies}
+use Rattle.items.specs.Items.{Left, Going, going, measure, mostReads}
+use Rattle.turns.specs.Turn.{toldItem}
+use Rattle.turns.specs.State.{Lies}
+use Rattle.items.specs.Start.{freshOf}
 use Rattle.raw.proofs.Given.{Given}
 use Rattle.fields.proofs.Opens.{not-true}
 use Rattle.fields.specs.Walk.{Turn, stop}
@@ -14,11 +15,11 @@ use lib.ListN.{length}
 use Prim.Native.Nat.{_+_, _*_, _≤_, _<_}
 use Rattle.items.specs.declared.Walked.{Walked}
 use Rattle.items.proofs.Kept.{next-sinks, next-lies, measure-small}
-use Rattle.items.specs.declared.Item.{Item}
+use Rattle.turns.specs.declared.Item.{Item}
 use Rattle.fields.specs.Walk as walks
-use Rattle.items.specs.declared.ItemStep.the-variants as step
+use Rattle.turns.specs.declared.ItemStep.the-variants as step
 use Rattle.table.specs.Held.{recordOf}
-use Rattle.items.specs.declared.State.{State}
+use Rattle.turns.specs.declared.State.{State}
 use native.Mathlib.Omega.{arith}
 use borrow.Author.Needs.{needs}
 use Rattle.items.proofs.inner.first_of.Statement.{statement}

@@ -1,9 +1,9 @@
 -- What the walk gives from where the loops stand is what it gives from the start. Each turn is a small step, which lowers the measure.
-use Rattle.items.specs.declared.Turn.{Turn}
-use Rattle.items.specs.declared.Kind.{Kind}
+use Rattle.turns.specs.declared.Turn.{Turn}
+use Rattle.turns.specs.declared.Kind.{Kind}
 use Rattle.items.proofs.Kept.{Kept, start, then, goes, sinks, stops, listed-step, raw-step, measure-small}
-use Rattle.items.specs.Items.{going, measure, turn, nextIn}
-use Rattle.items.specs.Turn.{toldKind, toldTurn, smallStep}
+use Rattle.items.specs.Items.{smallStep, going, measure, nextIn}
+use Rattle.turns.specs.Turn.{toldKind, toldTurn}
 use mathlib.Core.Path.{_≡_, ap, _∙_}
 use Prim.Native.Nat.{_*_, _≤_}
 use native.Mathlib.Omega.{arith}

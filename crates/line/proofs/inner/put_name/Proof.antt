@@ -3,11 +3,11 @@ use native.Mathlib.Omega.{arith}
 use mathlib.Core.Path.{sym, ap}
 use Prim.Native.Nat.{_-_}
 use borrow.Author.Needs.{needs}
-use Rattle.raw.specs.Span.{toldSpanned}
+use Rattle.values.specs.Span.{toldSpanned}
 use Rattle.text.specs.Words.{word, bytesFrom}
 use Rattle.text.proofs.Puts.{said}
 use Rattle.line.specs.Lines.{nameText}
-use Rattle.raw.specs.declared.Spanned.{Spanned}
+use Rattle.values.specs.declared.Spanned.{Spanned}
 use Rattle.line.proofs.inner.put_name.Statement.{statement}
 use Rattle.line.proofs.inner.put_name.Tie as tie
 

@@ -3,11 +3,11 @@ use native.Mathlib.Omega.{arith}
 use mathlib.Core.Path.{sym, ap}
 use Prim.Native.Nat.{_-_}
 use borrow.Author.Needs.{needs}
-use Rattle.raw.specs.Value.{toldValued}
+use Rattle.values.specs.Value.{toldValued}
 use Rattle.text.specs.Words.{word, bytesFrom}
 use Rattle.text.proofs.Puts.{both, said}
 use Rattle.line.specs.Lines.{valueText}
-use Rattle.raw.specs.declared.Valued.{Valued}
+use Rattle.values.specs.declared.Valued.{Valued}
 use Rattle.line.proofs.inner.put_value.Statement.{statement}
 use Rattle.line.proofs.inner.put_value.Tie as tie
 

@@ -4,7 +4,7 @@ use mathlib.Core.Path.{ap, _∙_}
 use Prim.Native.Nat.{ℕ, _-_}
 use borrow.Author.Needs.{needs}
 use Rattle.fields.specs.Open.{openIn}
-use Rattle.items.specs.declared.State.{State}
+use Rattle.turns.specs.declared.State.{State}
 use Rattle.table.specs.declared.Numbers.{Numbers}
 use Rattle.lines.specs.Making.{stageOf}
 use Rattle.lines.specs.declared.Told.{Told}

@@ -2,9 +2,9 @@
 use mathlib.Core.Path.{sym, ap, _∙_}
 use Prim.Native.Nat.{ℕ, _-_}
 use borrow.Author.Needs.{needs}
-use Rattle.items.specs.State.{noKey, state, noList}
-use Rattle.items.specs.declared.Key.{Key}
-use Rattle.items.specs.declared.Rest.{Rest}
+use Rattle.turns.specs.State.{noKey, state, noList}
+use Rattle.turns.specs.declared.Key.{Key}
+use Rattle.turns.specs.declared.Rest.{Rest}
 use Rattle.lines.specs.Making.{ending, noNumbers}
 use Rattle.lines.specs.declared.Told.{Told}
 use Rattle.lines.proofs.Tellings.{put-at}

@@ -5,7 +5,7 @@ use Prim.Native.Nat.{_+_, _-_}
 use borrow.Author.Needs.{needs}
 use Rattle.table.specs.Held.{recordOf}
 use Rattle.line.specs.Lines.{endLine, stoppedLine}
-use Rattle.lines.specs.Listing.{itemLine}
+use Rattle.gather.specs.Gather.{itemLine}
 use Rattle.lines.proofs.Comes.{walk-ends, walk-stops}
 use Rattle.lines.proofs.Tellings.{tells, last-told, based-ready, based-item, based-comes}
 use Rattle.lines.proofs.inner.walk_line.Statement.{statement}

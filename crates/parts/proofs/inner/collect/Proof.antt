@@ -2,11 +2,11 @@
 use Rattle.parts.specs.Parts.{cursor, Listing, filled, blankParts}
 use lib.ListN.{replicate, length, take}
 use Rattle.parts.proofs.Fills.{left, Filling, begun, stopped, filled-so, more, goes, made}
-use Rattle.items.proofs.Turns.{few}
+use Rattle.turns.proofs.Turns.{few}
 use Rattle.fields.proofs.Cases.{same}
 use mathlib.Core.Path.{_≡_, refl, sym, ap, _∙_, subst}
 use Prim.Native.Nat.{ℕ, _≤_}
-use Rattle.items.specs.declared.Key.{Key}
+use Rattle.turns.specs.declared.Key.{Key}
 use lib.Seq.{length-take-le}
 use Rattle.table.specs.Held.{recordOf}
 use native.Mathlib.Omega.{arith}

@@ -1,9 +1,9 @@
 -- The list step decides: the parts end, its refusal, or the entry given, which ends inside the list.
-use Rattle.items.specs.State.{partOf as listPart}
+use Rattle.turns.specs.State.{partOf as listPart}
 use Rattle.list.proofs.Given as entries
 use Rattle.parts.proofs.Stages.{entered}
 use Rattle.list.specs.Entry.{toldEntry}
-use Rattle.items.proofs.Turns.{entry-inside}
+use Rattle.turns.proofs.Turns.{entry-inside}
 use Rattle.parts.specs.Parts.{stepKeyed, stepEntered}
 use Rattle.fields.proofs.Answers.{told}
 use mathlib.Core.Path.{sym, ap, _∙_}

@@ -1,7 +1,7 @@
 -- The judge decides: the parts end, 6, or, where there is room, the part.
 use Rattle.parts.proofs.Stages.{joined}
 use Rattle.parts.specs.Parts.{stepPart, stepJoined}
-use Rattle.parts.specs.Join.{toldJoined}
+use Rattle.part.specs.Join.{toldJoined}
 use Rattle.raw.specs.Find.{left}
 use Rattle.fields.proofs.Answers.{told}
 use Rattle.fields.proofs.Cases.{lt-y, lt-n}
