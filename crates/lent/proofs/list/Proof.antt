@@ -63,6 +63,7 @@ use Rattle.lent.specs.Lent.{Fills, Stands, Onward, Begins}
 use Rattle.lent.specs.declared.Filled.{Filled}
 use Rattle.lent.specs.declared.Standing.{Standing}
 use Rattle.lent.proofs.Kept.{Going, Kept, kept-first, onward, kept-next}
+use Rattle.lent.proofs.Look.{go-of, part-of, told-of, count-of}
 use Rattle.lent.proofs.Filled as F
 use Rattle.lent.proofs.Filled.Laws as F′
 use Rattle.lent.proofs.Standing as S
@@ -299,7 +300,7 @@ module _ {M : Type 1} (𝓤 : URA M) (H : Heap 𝓤) (A : Atoms 𝓤) (W : Given
       stores w zs Γ goal is within go-on =
           elem-out ! T.the-row (Is T.the-row) (shows 𝓤 H A T.the-row) (LL.vals T.the-type T′.the-laws) (LL.tells T.the-type T′.the-laws) fullShare zs (w .told .count) (w .part) b o within (λ _.
           -- [list[n]; what it owns; the others; w; n; the test; the offset; the pointer; …]
-          assigns ! (of-opd ! (load ! (from ! (fld ! refl (stop !))) (look-in ! 3 (sub ! 1 refl (whole !))))) (from ! (hop ! (look ! 7 refl) (stop !))) (store-raw ! 0 refl (tt, wt w is .1 .1 .0)) $
+          assigns ! (of-opd ! (part-of l₇ w 3 refl refl)) (from ! (hop ! (look ! 7 refl) (stop !))) (store-raw ! 0 refl (tt, wt w is .1 .1 .0)) $
           move ! (1 ∷ []) $ drop ! $ owned ! T.the-row (Is T.the-row) (LL.makes T.the-type T′.the-plain 𝓤 H A) (w .part) _ (part-is w is) $ move ! (1 ∷ 0 ∷ []) $
           elem-put ! T.the-row fullShare zs (w .told .count) (w .part) (T′.lowered (w .part) ∷ []) b o within $ forget ! 2 refl $ forget ! 3 refl $ forget ! 4 refl $ forget ! 5 refl $ go-on)
 
@@ -307,9 +308,9 @@ module _ {M : Type 1} (𝓤 : URA M) (H : Heap 𝓤) (A : Atoms 𝓤) (W : Given
       points : (w : Standing) (zs : List Part) (Γ : List (Item 𝓤)) (goal : Kit.Post 𝓤 H) → StandingIs w → w .go ≡ true → w .told .count < length ys
           → Sq W (Pointed w zs Γ) (runs C Λ En to-store goal) → Sq W (Front w zs Γ) (runs C Λ En code.Mir.turn-1 goal)
       points w zs Γ goal is g fits go-on =
-          assigns ! (of-opd ! (load ! (from ! (fld ! refl (stop !))) (look-in ! 1 (sub ! 0 refl (whole !))))) (from ! (stop !)) (init ! 3 refl (tt, tt)) $
+          assigns ! (of-opd ! (go-of l₇ w 1 refl refl)) (from ! (stop !)) (init ! 3 refl (tt, tt)) $
           rewrite ! 3 (λ (y : Bool). ‵ (fat fullShare tyBool l₉ 0 (vbool y))) g refl $ stays ! (load ! (from ! (stop !)) (look ! 3 refl)) $
-          assigns ! (of-opd ! (load ! (from ! (fld ! refl (fld ! refl (stop !)))) (look-in ! 1 (sub ! 0 refl (sub ! 2 refl (whole !)))))) (from ! (stop !)) (init ! 2 refl (tt, wt w is .1 .1 .1 .0 .0)) $
+          assigns ! (of-opd ! (count-of l₇ w 1 refl refl)) (from ! (stop !)) (init ! 2 refl (tt, wt w is .1 .1 .1 .0 .0)) $
           assigns ! (bin ! (load ! (from ! (stop !)) (look ! 2 refl)) (lit ! tt) (record { fits = in-bytes })) (from ! (stop !)) (init ! 4 refl (tt, record { fits = in-bytes })) $
           assigns ! (bin ! (load ! (from ! (fld ! refl (stop !))) (look-in ! 6 (sub ! 0 refl (whole !)))) (load ! (from ! (stop !)) (look ! 4 refl)) tt) (from ! (stop !)) (init ! 5 refl (tt, tt)) $
           rewrite ! 5 (λ (j : ℕ). ‵ (fat fullShare tyPtr l₁₁ 0 (vptr b j))) (sym (place-is 56 o (w .told .count))) refl $ go-on
@@ -321,9 +322,9 @@ module _ {M : Type 1} (𝓤 : URA M) (H : Heap 𝓤) (A : Atoms 𝓤) (W : Given
       turn-off : (z : State) → z .w .go ≡ false → Sq W (At z) (runs C Λ En code.Mir.turn-1 (anyQ (Turned z)))
       unfolding afterTurn
       turn-off z g =
-          assigns ! (of-opd ! (load ! (from ! (fld ! refl (stop !))) (look-in ! 1 (sub ! 0 refl (whole !))))) (from ! (stop !)) (init ! 3 refl (tt, tt)) $
+          assigns ! (of-opd ! (go-of l₇ (z .w) 1 refl refl)) (from ! (stop !)) (init ! 3 refl (tt, tt)) $
           rewrite ! 3 (λ (y : Bool). ‵ (fat fullShare tyBool l₉ 0 (vbool y))) g refl $ leaves-loop ! (load ! (from ! (stop !)) (look ! 3 refl)) $ exec ! C Λ En code.Mir.t-4 (atRet En Post) $
-          assigns ! (of-opd ! (load ! (from ! (fld ! refl (stop !))) (look-in ! 1 (sub ! 2 refl (whole !))))) (from ! (stop !)) (init ! 12 refl (LL.lawful F.the-type F′.the-laws 𝓤 H A W .typed (z .w .told) _ (told-is (z .w) (z .is)) .0)) $
+          assigns ! (of-opd ! (told-of l₇ (z .w) 1 refl refl)) (from ! (stop !)) (init ! 12 refl (LL.lawful F.the-type F′.the-laws 𝓤 H A W .typed (z .w .told) _ (told-is (z .w) (z .is)) .0)) $
           move ! (0 ∷ 13 ∷ 14 ∷ 15 ∷ []) $ closes-slice ! tt T.the-row ys (z .zs) (z .kept .len) b o $
           -- [the borrow's end; the borrow; its token; w; n; the test; the offset; the pointer; list; base; number; t; l; room; the result; the token; what the bytes own; and that each local dies]
           returns ! (look ! 14 refl) $ forget ! 3 refl $ forget ! 5 refl $ forget ! 8 refl $ forget ! 9 refl $ forget ! 10 refl $ forget ! 11 refl $ forget ! 12 refl $ forget ! 13 refl $ forget ! 14 refl $

@@ -1,6 +1,7 @@
--- Each field is read where the definition has it.
+-- Each field is read where the definition has it: so the two records are equal field by field.
 use Rattle.raw.specs.Attribute.{attributeAt}
-use Prim.Native.Nat.{_-_}
+use Rattle.fields.specs.Known.{attributeFlags}
+use mathlib.Core.Path.{ap, _∙_}
 use borrow.Author.Needs.{needs}
 use Rattle.raw.proofs.inner.read_attribute.Statement.{statement}
 use Rattle.raw.proofs.inner.read_attribute.Tie as tie
@@ -52,7 +53,19 @@ u16-at-requires-3 c κs = search needs
 
 returns : tie.Need-returns
 unfolding attributeAt
-returns c = cc
+returns c =
+    let start = c .before .before .before .before .before .before .before .before .before .args in
+    let a = attributeAt (start .s .now) (start .at) in
+    λ i. record {
+      offset = a .offset;
+      ty = c .before .before .before .before .before .before .before .u32-at .ensures i;
+      length = c .before .before .before .before .before .before .u32-at2 .ensures i;
+      resident = a .resident;
+      units = a .units;
+      name = c .before .before .before .u16-at .ensures i;
+      flags = (c .before .attribute-flags .ensures ∙ ap attributeFlags (c .before .before .u16-at2 .ensures)) i;
+      instance = c .u16-at3 .ensures i;
+    }
 
 pub read-attribute-spec : {M : Type 1} → statement M
 read-attribute-spec =

@@ -1,12 +1,11 @@
 -- The list step decides: the list is closed, its refusal, or the entry given, which ends inside the list.
-use Rattle.turns.proofs.Turns.{entry-inside}
+use Rattle.turns.proofs.Turns.{passes-to, reads-none, entry-inside}
 use Rattle.list.proofs.Given as entries
 use Rattle.list.specs.Entry.{toldEntry}
-use Rattle.turns.specs.Turn.{passes, toldTurn, closed, entryAfter, entryTurn}
+use Rattle.turns.specs.Turn.{entryAfter, entryTurn}
 use Rattle.turns.specs.State.{partOf}
 use Rattle.fields.proofs.Answers.{told}
-use mathlib.Core.Path.{_≡_, sym, ap, _∙_}
-use native.Mathlib.Omega.{arith}
+use mathlib.Core.Path.{sym, ap, _∙_}
 use borrow.Author.Needs.{needs}
 use Rattle.turns.proofs.inner.entry_turn.Statement.{statement}
 use Rattle.turns.proofs.inner.entry_turn.Tie as tie
@@ -47,12 +46,11 @@ given-turn-requires c κs = (c .before .before .before .before .before .before .
 
 returns : tie.Need-returns
 unfolding entryTurn entryAfter partOf
-returns c = let q : toldTurn (c .pass .result) ≡ passes (closed (c .before .before .before .before .before .before .before .before .args .w)) 0 = cc in
-    (q ∙ ap (entryAfter _ _ _ _ _) (told toldEntry (c .before .before .before .before .header .ensures) (c .before .before .enum-told .given .1)), omega arith)
+returns c = (passes-to (c .pass .ensures .0) (c .before .close .ensures) ∙ ap (entryAfter _ _ _ _ _) (told toldEntry (c .before .before .before .before .header .ensures) (c .before .before .enum-told .given .1)), reads-none (c .pass .ensures .1))
 
 returns-2 : tie.Need-returns-2
 unfolding entryTurn entryAfter partOf
-returns-2 c = (c .refuse .ensures .0 ∙ ap (entryAfter _ _ _ _ _) (told toldEntry (c .before .before .before .before .header .ensures) (c .before .before .a .given .1)), omega arith)
+returns-2 c = (c .refuse .ensures .0 ∙ ap (entryAfter _ _ _ _ _) (told toldEntry (c .before .before .before .before .header .ensures) (c .before .before .a .given .1)), reads-none (c .refuse .ensures .1))
 
 returns-3 : tie.Need-returns-3
 unfolding entryTurn entryAfter partOf

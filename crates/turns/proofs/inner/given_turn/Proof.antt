@@ -1,9 +1,5 @@
 -- Each return has the tests that led to it.
-use Rattle.turns.specs.Turn.{passes, answers, toldTurn, past, givenTurn}
-use Rattle.fields.specs.Answer.{refuses, refusal}
-use Rattle.fields.proofs.Cases.{cases}
-use mathlib.Core.Path.{_≡_}
-use native.Mathlib.Omega.{arith}
+use Rattle.turns.proofs.Turns.{given-unknown, given-base, given-agreeing, given-looked, reads-one}
 use borrow.Author.Needs.{needs}
 use Rattle.turns.proofs.inner.given_turn.Statement.{statement}
 use Rattle.turns.proofs.inner.given_turn.Tie as tie
@@ -18,8 +14,7 @@ pass-requires : tie.Need-pass-requires
 pass-requires c κs = search needs
 
 returns : tie.Need-returns
-unfolding givenTurn
-returns c = let q : toldTurn (c .pass .result) ≡ passes (past (c .before .before .before .before .before .before .before .before .before .before .before .args .w) (c .before .before .before .before .before .before .before .before .before .before .before .args .e)) 1 = cc in (search cases, omega arith)
+returns c = (given-base _ _ _ _ _ _ (c .before .before .before .before .before .before .known-type .ensures) (c .before .before .before .before .before .if1 .taken) (c .before .before .if2 .taken) (c .before .past-with .ensures) (c .pass .ensures .0), reads-one (c .pass .ensures .1))
 
 agrees-with-requires : tie.Need-agrees-with-requires
 agrees-with-requires c κs = search needs
@@ -31,15 +26,13 @@ pass-requires-2 : tie.Need-pass-requires-2
 pass-requires-2 c κs = search needs
 
 returns-2 : tie.Need-returns-2
-unfolding givenTurn
-returns-2 c = let q : toldTurn (c .pass2 .result) ≡ passes (past (c .before .before .before .before .before .before .before .before .before .before .before .before .before .args .w) (c .before .before .before .before .before .before .before .before .before .before .before .before .before .args .e)) 1 = cc in (search cases, omega arith)
+returns-2 c = (given-agreeing _ _ _ _ _ _ (c .before .before .before .before .before .before .before .before .known-type .ensures) (c .before .before .before .before .before .before .before .if1 .taken) (c .before .before .before .before .if2 .left) (c .before .before .before .agrees-with .ensures) (c .before .before .if3 .taken) (c .before .past-with2 .ensures) (c .pass2 .ensures .0), reads-one (c .pass2 .ensures .1))
 
 looked-turn-requires : tie.Need-looked-turn-requires
 looked-turn-requires c κs = search needs
 
 returns-3 : tie.Need-returns-3
-unfolding givenTurn
-returns-3 c = (search cases, c .looked-turn .ensures .1)
+returns-3 c = (given-looked _ _ _ _ _ _ (c .before .before .before .before .before .before .before .known-type .ensures) (c .before .before .before .before .before .before .if1 .taken) (c .before .before .before .if2 .left) (c .before .before .agrees-with .ensures) (c .before .if3 .left) (c .looked-turn .ensures .0), c .looked-turn .ensures .1)
 
 past-with-requires-3 : tie.Need-past-with-requires-3
 past-with-requires-3 c κs = search needs
@@ -48,8 +41,7 @@ refuse-requires : tie.Need-refuse-requires
 refuse-requires c κs = search needs
 
 returns-4 : tie.Need-returns-4
-unfolding givenTurn
-returns-4 c = let q : toldTurn (c .refuse .result) ≡ answers (refuses (refusal 6 (c .before .before .before .before .before .before .before .before .args .number) (c .before .before .before .before .before .before .before .before .args .w .list .from))) (past (c .before .before .before .before .before .before .before .before .args .w) (c .before .before .before .before .before .before .before .before .args .e)) 1 = cc in (search cases, omega arith)
+returns-4 c = (given-unknown _ _ _ _ _ _ (c .before .before .before .known-type .ensures) (c .before .before .if1 .left) (c .before .past-with3 .ensures) (c .refuse .ensures .0), reads-one (c .refuse .ensures .1))
 
 pub given-turn-spec : {M : Type 1} → statement M
 given-turn-spec =

@@ -1,15 +1,12 @@
 -- The lookup decides: its refusal, or the search in the record found.
 use Rattle.lookup.specs.Lookup.{toldPlaced, Placing}
-use Rattle.turns.proofs.Turns.{placed-small, looked-refused, looked-found}
-use Rattle.turns.specs.Turn.{answers, toldTurn, cleared}
-use Rattle.raw.proofs.Given.{inside}
+use Rattle.turns.proofs.Turns.{reads-one, placed-small, looked-refused, looked-found}
 use Rattle.fields.proofs.Answers.{told}
-use Rattle.fields.specs.Answer.{gives, refuses}
+use Rattle.fields.specs.Answer.{gives}
 use mathlib.Core.List.{List}
-use mathlib.Core.Path.{_≡_, sym, ap, _∙_, subst}
+use mathlib.Core.Path.{sym, ap, _∙_, subst}
 use lib.ListN.{length}
 use Prim.Native.Nat.{ℕ, _≤_}
-use native.Mathlib.Omega.{arith}
 use borrow.Author.Needs.{needs}
 use Rattle.turns.proofs.inner.looked_turn.Statement.{statement}
 use Rattle.turns.proofs.inner.looked_turn.Tie as tie
@@ -39,8 +36,8 @@ sought-turn-requires : tie.Need-sought-turn-requires
 sought-turn-requires c κs = (c .before .before .before .before .before .before .before .before .pre .1, subst (λ (l : List ℕ). length l ≤ 4096) (sym (c .part .ensures)) (placed-small (c .before .before .before .before .before .before .before .before .args .base .now) (c .before .before .before .before .before .before .before .before .args .t .now) (c .before .before .before .before .before .before .before .before .args .h) (c .before .before .p2 .given .0 .0) (c .before .before .before .before .before .before .before .before .pre .0 .sound) (c .before .before .before .before .before .before .before .before .pre .0 .small) (subst (Placing _) (c .before .before .p2 .given .1) (c .before .before .before .before .lookup .ensures .inside))))
 
 returns : tie.Need-returns
-returns c = let q : toldTurn (c .refuse .result) ≡ answers (refuses (c .before .before .before .before .p .given .0 .0)) (cleared (c .before .before .before .before .before .before .before .before .before .before .args .w) (c .before .before .before .before .before .before .before .before .before .before .args .e)) 1 = cc in
-    (looked-refused _ _ _ _ _ _ (told (toldPlaced _ _ _) (c .before .before .before .before .before .before .lookup .ensures .told) (c .before .before .before .before .p .given .1)) q, omega arith)
+returns c =
+    (looked-refused _ _ _ _ _ _ (told (toldPlaced _ _ _) (c .before .before .before .before .before .before .lookup .ensures .told) (c .before .before .before .before .p .given .1)) (c .before .past-with .ensures) (c .before .before .no-key .ensures) (c .refuse .ensures .0), reads-one (c .refuse .ensures .1))
 
 returns-2 : tie.Need-returns-2
 returns-2 c = (looked-found _ _ _ _ _ _ (ap gives (c .before .part .ensures) ∙ told (toldPlaced _ _ _) (c .before .before .before .before .before .lookup .ensures .told) (c .before .before .before .p2 .given .1)) (c .sought-turn .ensures .0), c .sought-turn .ensures .1)

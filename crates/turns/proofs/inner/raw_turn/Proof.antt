@@ -1,12 +1,10 @@
 -- The raw step decides: the end, its refusal, or the attribute taken.
-use Rattle.turns.specs.Turn.{answers, toldTurn, closed, rawAfter, rawTurn}
+use Rattle.turns.specs.Turn.{rawAfter, rawTurn}
+use Rattle.turns.proofs.Turns.{answers-to, reads-none}
 use Rattle.raw.proofs.Given.{of-step, inside}
 use Rattle.raw.specs.Step.{toldStep}
 use Rattle.fields.proofs.Answers.{told}
-use Rattle.fields.specs.Walk.{stop}
-use Rattle.fields.specs.Answer.{ends, refuses}
-use mathlib.Core.Path.{_≡_, sym, ap, _∙_}
-use native.Mathlib.Omega.{arith}
+use mathlib.Core.Path.{sym, ap, _∙_}
 use borrow.Author.Needs.{needs}
 use Rattle.turns.proofs.inner.raw_turn.Statement.{statement}
 use Rattle.turns.proofs.inner.raw_turn.Tie as tie
@@ -36,17 +34,15 @@ enum-known-a-2 : tie.Need-enum-known-a-2
 enum-known-a-2 c = search needs
 
 taken-turn-requires : tie.Need-taken-turn-requires
-taken-turn-requires c κs = let g = of-step _ _ _ _ (sym (told toldStep (c .before .before .before .step .ensures) (c .before .a2 .given .1))) in (inside g (c .before .before .before .before .before .pre), omega arith)
+taken-turn-requires c κs = let g = of-step _ _ _ _ (sym (told toldStep (c .before .before .before .step .ensures) (c .before .a2 .given .1))) in (inside g (c .before .before .before .before .before .pre), g .most)
 
 returns : tie.Need-returns
 unfolding rawTurn rawAfter
-returns c = let q : toldTurn (c .stop .result) ≡ answers ends (closed (c .before .before .before .before .before .before .args .w)) 0 = cc in
-    (q ∙ ap (rawAfter _ _ _) (told toldStep (c .before .before .before .before .step .ensures) (c .before .before .enum-told .given .1)), omega arith)
+returns c = (answers-to (c .stop .ensures .0) (c .before .close .ensures) ∙ ap (rawAfter _ _ _) (told toldStep (c .before .before .before .before .step .ensures) (c .before .before .enum-told .given .1)), reads-none (c .stop .ensures .1))
 
 returns-2 : tie.Need-returns-2
 unfolding rawTurn rawAfter
-returns-2 c = let q : toldTurn (c .refuse .result) ≡ answers (refuses (c .before .before .before .a .given .0 .0)) (closed (c .before .before .before .before .before .before .before .args .w)) 0 = cc in
-    (q ∙ ap (rawAfter _ _ _) (told toldStep (c .before .before .before .before .before .step .ensures) (c .before .before .before .a .given .1)), omega arith)
+returns-2 c = (answers-to (c .refuse .ensures .0) (c .before .close2 .ensures) ∙ ap (rawAfter _ _ _) (told toldStep (c .before .before .before .before .before .step .ensures) (c .before .before .before .a .given .1)), reads-none (c .refuse .ensures .1))
 
 returns-3 : tie.Need-returns-3
 unfolding rawTurn

@@ -1,14 +1,6 @@
 -- The search decides: its refusal, a resident item with the key cleared, or a non-resident one that leaves its key.
-use Rattle.turns.specs.Turn.{answers, toldTurn, item, pastWith, cleared, foundTurn}
-use Rattle.turns.specs.Key.{keyOf}
-use Rattle.turns.specs.State.{noList}
-use Rattle.raw.specs.Find.{left}
-use Rattle.fields.specs.Walk.{stop}
-use Rattle.fields.specs.Answer.{gives, refuses}
-use Rattle.fields.proofs.Cases.{yes, no}
-use mathlib.Core.Path.{_≡_}
-use Prim.Native.Nat.{_+_}
-use Rattle.turns.proofs.Turns.{sought, few}
+use Rattle.turns.proofs.Turns.{sought-refused, sought-resident, sought-non-resident, few, reads-one-more}
+use Prim.Native.Nat.{_≤_}
 use native.Mathlib.Omega.{arith}
 use borrow.Author.Needs.{needs}
 use Rattle.turns.proofs.inner.sought_turn.Statement.{statement}
@@ -17,8 +9,11 @@ use Rattle.turns.proofs.inner.sought_turn.Tie as tie
 find-requires : tie.Need-find-requires
 find-requires c κs = search needs
 
+found-few : (c : tie.After-find) → c .find .result .reads ≤ 256
+found-few c = few _ _ _ _ _ (c .find .result) (c .find .ensures) (c .before .before .before .pre .1)
+
 add-reads : tie.Need-add-reads
-add-reads c = omega (arith, few _ _ _ _ _ (c .before .find .result) (c .before .find .ensures) (c .before .before .before .before .pre .1))
+add-reads c = omega (arith, found-few (c .before))
 
 enum-known-a : tie.Need-enum-known-a
 enum-known-a c = search needs
@@ -48,9 +43,9 @@ stop-requires : tie.Need-stop-requires
 stop-requires c κs = search needs
 
 returns : tie.Need-returns
-unfolding foundTurn
-returns c = let q : toldTurn (c .stop .result) ≡ answers (gives (item (c .before .before .before .before .before .before .before .before .before .before .before .before .before .args .e .file) (c .before .before .before .before .before .before .a2 .given .0 .0) noList)) (cleared (c .before .before .before .before .before .before .before .before .before .before .before .before .before .args .w) (c .before .before .before .before .before .before .before .before .before .before .before .before .before .args .e)) (c .before .before .before .before .before .before .before .before .before .before .find .result .reads + 1) = cc in
-    (sought _ _ _ (c .before .before .before .before .before .before .before .before .before .before .find .ensures) (c .before .before .before .before .before .before .a2 .given .1) (yes _ _ _ (c .before .before .before .before .if1 .taken) q), omega (arith, few _ _ _ _ _ (c .before .before .before .before .before .before .before .before .before .before .find .result) (c .before .before .before .before .before .before .before .before .before .before .find .ensures) (c .before .before .before .before .before .before .before .before .before .before .before .before .before .pre .1)))
+returns c =
+    let f = c .before .before .before .before .before .before .before .before .before .before in
+    (sought-resident _ _ _ (f .find .ensures) (c .before .past-with2 .ensures) (c .before .before .before .before .before .before .a2 .given .1) (c .before .before .before .before .if1 .taken) (c .before .before .no-key2 .ensures) (c .before .before .before .no-list .ensures) (c .stop .ensures .0), reads-one-more (found-few f) (c .stop .ensures .1))
 
 key-of-requires : tie.Need-key-of-requires
 key-of-requires c κs = search needs
@@ -62,14 +57,14 @@ stop-requires-2 : tie.Need-stop-requires-2
 stop-requires-2 c κs = search needs
 
 returns-2 : tie.Need-returns-2
-unfolding foundTurn
-returns-2 c = let q : toldTurn (c .refuse .result) ≡ answers (refuses (c .before .before .before .before .a .given .0 .0)) (cleared (c .before .before .before .before .before .before .before .before .before .before .before .args .w) (c .before .before .before .before .before .before .before .before .before .before .before .args .e)) (c .before .before .before .before .before .before .before .before .find .result .reads + 1) = cc in
-    (sought _ _ _ (c .before .before .before .before .before .before .before .before .find .ensures) (c .before .before .before .before .a .given .1) q, omega (arith, few _ _ _ _ _ (c .before .before .before .before .before .before .before .before .find .result) (c .before .before .before .before .before .before .before .before .find .ensures) (c .before .before .before .before .before .before .before .before .before .before .before .pre .1)))
+returns-2 c =
+    let f = c .before .before .before .before .before .before .before .before in
+    (sought-refused _ _ _ (f .find .ensures) (c .before .past-with .ensures) (c .before .before .before .before .a .given .1) (c .before .before .no-key .ensures) (c .refuse .ensures .0), reads-one-more (found-few f) (c .refuse .ensures .1))
 
 returns-3 : tie.Need-returns-3
-unfolding foundTurn
-returns-3 c = let q : toldTurn (c .stop2 .result) ≡ answers (gives (item (c .before .before .before .before .before .before .before .before .before .before .before .before .before .args .e .file) (c .before .before .before .before .before .before .a2 .given .0 .0) (c .before .before .before .before .before .before .before .before .before .before .before .before .before .args .w .list))) (pastWith (c .before .before .before .before .before .before .before .before .before .before .before .before .before .args .w) (c .before .before .before .before .before .before .before .before .before .before .before .before .before .args .e) (keyOf (c .before .before .before .before .before .before .before .before .before .before .before .before .before .args .e) (c .before .before .before .before .before .before .before .before .before .before .before .before .before .args .part .now))) (c .before .before .before .before .before .before .before .before .before .before .find .result .reads + 1) = cc in
-    (sought _ _ _ (c .before .before .before .before .before .before .before .before .before .before .find .ensures) (c .before .before .before .before .before .before .a2 .given .1) (no _ _ _ (c .before .before .before .before .if1 .left) q), omega (arith, few _ _ _ _ _ (c .before .before .before .before .before .before .before .before .before .before .find .result) (c .before .before .before .before .before .before .before .before .before .before .find .ensures) (c .before .before .before .before .before .before .before .before .before .before .before .before .before .pre .1)))
+returns-3 c =
+    let f = c .before .before .before .before .before .before .before .before .before .before in
+    (sought-non-resident _ _ _ (f .find .ensures) (c .before .past-with3 .ensures) (c .before .before .before .before .before .before .a2 .given .1) (c .before .before .before .before .if1 .left) (c .before .before .key-of .ensures) (c .stop2 .ensures .0), reads-one-more (found-few f) (c .stop2 .ensures .1))
 
 pub sought-turn-spec : {M : Type 1} → statement M
 sought-turn-spec =

@@ -1,14 +1,9 @@
 -- An attribute of type 0x20 opens its list or is refused there; any other is the item.
-use Rattle.turns.specs.Turn.{answers, toldTurn, item, passed, listTurn, rawAfter}
-use Rattle.turns.specs.State.{noList}
-use Rattle.raw.specs.Find.{left}
+use Rattle.turns.proofs.Turns.{taken-refused, taken-list, taken-item, reads-one}
 use Rattle.values.specs.Span.{toldSpanned}
-use Rattle.fields.proofs.Answers.{told}
-use Rattle.fields.specs.Walk.{stop}
-use Rattle.fields.specs.Answer.{gives, refuses}
-use Rattle.fields.proofs.Cases.{eq-y, eq-n}
-use mathlib.Core.Path.{_≡_, sym, ap, _∙_}
 use Rattle.values.proofs.Spans.{list-fits}
+use Rattle.fields.proofs.Answers.{told}
+use mathlib.Core.Path.{sym}
 use native.Mathlib.Omega.{arith}
 use borrow.Author.Needs.{needs}
 use Rattle.turns.proofs.inner.taken_turn.Statement.{statement}
@@ -30,9 +25,7 @@ refuse-requires : tie.Need-refuse-requires
 refuse-requires c κs = search needs
 
 returns : tie.Need-returns
-unfolding rawAfter listTurn
-returns c = let q : toldTurn (c .refuse .result) ≡ answers (refuses (c .before .before .before .p .given .0 .0)) (passed (c .before .before .before .before .before .before .before .before .before .before .before .before .args .w) (c .before .before .before .before .before .before .before .before .before .before .before .before .args .h)) 1 = cc in
-    (eq-y _ _ _ _ (c .before .before .before .before .before .before .if1 .taken) (q ∙ ap (listTurn _ _) (told toldSpanned (c .before .before .before .before .before .list-of .ensures) (c .before .before .before .p .given .1))), omega arith)
+returns c = (taken-refused _ _ _ _ (c .before .before .before .before .before .before .if1 .taken) (told toldSpanned (c .before .before .before .before .before .list-of .ensures) (c .before .before .before .p .given .1)) (c .before .no-list .ensures) (c .refuse .ensures .0), reads-one (c .refuse .ensures .1))
 
 enum-known-p-2 : tie.Need-enum-known-p-2
 enum-known-p-2 c = search needs
@@ -44,8 +37,7 @@ pass-requires : tie.Need-pass-requires
 pass-requires c κs = search needs
 
 returns-2 : tie.Need-returns-2
-unfolding rawAfter listTurn
-returns-2 c = (eq-y _ _ _ _ (c .before .before .before .before .before .before .if1 .taken) (c .pass .ensures .0 ∙ ap (listTurn _ _) (told toldSpanned (c .before .before .before .before .before .list-of .ensures) (c .before .before .before .p2 .given .1))), omega arith)
+returns-2 c = (taken-list _ _ _ _ (c .before .before .before .before .before .before .if1 .taken) (told toldSpanned (c .before .before .before .before .before .list-of .ensures) (c .before .before .before .p2 .given .1)) (c .pass .ensures .0), reads-one (c .pass .ensures .1))
 
 no-list-requires-2 : tie.Need-no-list-requires-2
 no-list-requires-2 c κs = search needs
@@ -57,9 +49,7 @@ stop-requires : tie.Need-stop-requires
 stop-requires c κs = search needs
 
 returns-3 : tie.Need-returns-3
-unfolding rawAfter listTurn
-returns-3 c = let q : toldTurn (c .stop .result) ≡ answers (gives (item (c .before .before .before .before .before .before .before .before .before .args .number) (c .before .before .before .before .before .before .before .before .before .args .h) noList)) (passed (c .before .before .before .before .before .before .before .before .before .args .w) (c .before .before .before .before .before .before .before .before .before .args .h)) 1 = cc in
-    (eq-n _ _ _ _ (c .before .before .before .if1 .left) q, omega arith)
+returns-3 c = (taken-item _ _ _ _ (c .before .before .before .if1 .left) (c .before .before .no-list2 .ensures) (c .before .no-list3 .ensures) (c .stop .ensures .0), reads-one (c .stop .ensures .1))
 
 pub taken-turn-spec : {M : Type 1} → statement M
 taken-turn-spec =

@@ -1,6 +1,5 @@
--- Each field is read where the definition has it.
+-- Each field is read where the definition has it: so the two records are equal field by field.
 use Rattle.values.specs.Value.{nonResidentAt}
-use Prim.Native.Nat.{_-_}
 use borrow.Author.Needs.{needs}
 use Rattle.values.proofs.inner.read_non_resident.Statement.{statement}
 use Rattle.values.proofs.inner.read_non_resident.Tie as tie
@@ -43,7 +42,14 @@ u64-at-requires-5 c κs = search needs
 
 returns : tie.Need-returns
 unfolding nonResidentAt
-returns c = cc
+returns c = λ i. record {
+  lowest = record { 0 = c .before .before .before .before .before .u64-at .ensures i };
+  highest = record { 0 = c .before .before .before .before .u64-at2 .ensures i };
+  runs = c .before .before .before .u16-at .ensures i;
+  allocated = c .before .before .u64-at3 .ensures i;
+  size = c .before .u64-at4 .ensures i;
+  initialized = c .u64-at5 .ensures i;
+}
 
 pub read-non-resident-spec : {M : Type 1} → statement M
 read-non-resident-spec =

@@ -1,6 +1,5 @@
--- Each field is read where the definition has it.
+-- Each field is read where the definition has it: so the two records are equal field by field.
 use Rattle.values.specs.Value.{residentAt}
-use Prim.Native.Nat.{_-_}
 use borrow.Author.Needs.{needs}
 use Rattle.values.proofs.inner.read_resident.Statement.{statement}
 use Rattle.values.proofs.inner.read_resident.Tie as tie
@@ -19,7 +18,7 @@ u16-at-requires c κs = search needs
 
 returns : tie.Need-returns
 unfolding residentAt
-returns c = cc
+returns c = λ i. record { bytes = c .before .u32-at .ensures i; value = c .u16-at .ensures i }
 
 pub read-resident-spec : {M : Type 1} → statement M
 read-resident-spec =
