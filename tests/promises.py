@@ -20,7 +20,7 @@ def public_calls():
         crate = path.split(os.sep)[-3]
         if crate not in HELPERS:
             with open(path, encoding="utf-8") as source:
-                calls.update("%s::%s" % (crate, name) for name in re.findall(r"^pub fn (\w+)", source.read(), re.MULTILINE))
+                calls.update("%s::%s" % (crate, name) for name in re.findall(r'^pub (?:extern "C" )?fn (\w+)', source.read(), re.MULTILINE))
     return calls
 
 

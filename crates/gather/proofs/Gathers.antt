@@ -1,17 +1,17 @@
 -- The numbers of the parts found so far stand in front of the lent ones, and from the cursor on the rest of the parts follows.
 use Prim.Native.Nat.{ℕ, zero, suc, _+_, _-_, _*_, _<_, _≤_}
 use native.Mathlib.Omega.{arith}
-use native.Mathlib.Numerals.{add-one}
 use mathlib.Core.Path.{_≡_, refl, sym, ap, _∙_, subst}
 use mathlib.Core.Bool.{true, false}
 use mathlib.Core.List.{List, [], _∷_, _++_, append-assoc, append-nil}
 use mathlib.Core.Option.{Option}
 use lib.Dec.{eqb}
 use lib.ListN.{length, take, set, length-set}
-use lib.Seq.{take-suc-set, length-take-le}
+use lib.Seq.{length-take-le}
 use Rattle.fields.specs.Pick.{pick}
 use Rattle.fields.specs.Answer.{Answer, gives}
 use Rattle.fields.specs.declared.RecordNumber.{RecordNumber}
+use Rattle.fields.proofs.Stores.{stored}
 use Rattle.fields.proofs.Cases.{yes, no, eq-y, eq-n}
 use Rattle.values.specs.Value.{Value}
 use Rattle.values.specs.declared.Span.{Span}
@@ -30,7 +30,7 @@ use Rattle.line.specs.declared.Gathered.{Gathered}
 
 -- one number more behind y
 grown : (d x y : List ℕ) (m b : ℕ) → m < length d → take m d ≡ x ++ y → take (m + 1) (set d m b) ≡ x ++ (y ++ (b ∷ []))
-grown d x y m b h e = rw add-one (take-suc-set d m b h) ∙ ap (λ (z : List ℕ). z ++ (b ∷ [])) e ∙ append-assoc x y (b ∷ [])
+grown d x y m b h e = stored d m b h ∙ ap (λ (z : List ℕ). z ++ (b ∷ [])) e ∙ append-assoc x y (b ∷ [])
 
 -- five stores behind the first n
 abbrev pub stores : List ℕ → ℕ → ℕ → ℕ → ℕ → ℕ → ℕ → List ℕ
@@ -106,7 +106,7 @@ module _ (s : List ℕ) (n : RecordNumber) (look : RecordNumber → Option (List
         let w = h .filling .size in
         let v = blank-length in
         let x : count < length ps = omega arith in
-        let taken : take (count + 1) (set ps count p) ≡ take count ps ++ (p ∷ []) = rw add-one (take-suc-set ps count p x) in
+        let taken = stored ps count p x in
         record {
           filling = more s n look 157 l blankParts ps count reads c (h .filling) p d k e f (omega arith);
           kept = g ∙ ap (λ (y : List ℕ). y ++ partNumbers p) (h .kept) ∙ sym (numbers-more (take count ps) p) ∙ ap allNumbers (sym taken);

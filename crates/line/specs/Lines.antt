@@ -52,12 +52,12 @@ unfoldable pub partNumbers : Part → List ℕ
 partNumbers p = p .file .0 ∷ p .offset ∷ p .lowest .0 ∷ p .runs .from ∷ p .runs .bytes ∷ []
 
 -- a line of these five numbers
-unfoldable pub numbersLine : List ℕ → Text
-numbersLine ns = told "part" ns ++ newline
+unfoldable pub partLineOf : List ℕ → Text
+partLineOf ns = told "part" ns ++ newline
 
 -- `part RECORD OFFSET VCN RUNOFFSET RUNBYTES`
 unfoldable pub partLine : Part → Text
-partLine p = numbersLine (partNumbers p)
+partLine p = partLineOf (partNumbers p)
 
 -- `end reads C`
 unfoldable pub endLine : ℕ → Text

@@ -15,7 +15,7 @@ ghost use Rattle.values.specs.Span.{toldSpanned};
 ghost use Rattle.values.specs.Value.{toldValued};
 ghost use Rattle.parts.specs.Parts.{toldEnded};
 ghost use Rattle.text.specs.Put.{Put};
-ghost use Rattle.line.specs.Lines.{recordLine, nameText, valueText, partsText, attrLine, numbersLine, endLine, stoppedLine, refusedLine};
+ghost use Rattle.line.specs.Lines.{recordLine, nameText, valueText, partsText, attrLine, partLineOf, endLine, stoppedLine, refusedLine};
 
 // record NUMBER size M
 pub fn record_line(out: &mut [u8], at: usize, number: RecordNumber, size: usize) -> usize
@@ -114,7 +114,7 @@ pub fn attr_line(
 // part RECORD OFFSET VCN RUNOFFSET RUNBYTES, the five numbers handed in
 pub fn part_line(out: &mut [u8], at: usize, numbers: &[u64]) -> usize
     requires { ⌜ (at + 256 ≤ length (now out)) × (length (now numbers) ≡ 5) ⌝ }
-    ensures { λ r. ⌜ Put (now (out .entry)) at (now (out .exit)) r (numbersLine (now (numbers .entry))) 256 ⌝ }
+    ensures { λ r. ⌜ Put (now (out .entry)) at (now (out .exit)) r (partLineOf (now (numbers .entry))) 256 ⌝ }
 {
     let end = put_words(out, at, b"part", numbers);
     put_byte(out, end, b'\n')

@@ -24,10 +24,10 @@ use Rattle.turns.specs.declared.ItemStep.{ItemStep}
 use Rattle.items.specs.declared.Walked.{Walked}
 use Rattle.items.proofs.Kept.{next-sinks}
 use Rattle.part.specs.declared.Part.{Part}
-use Rattle.line.specs.Lines.{Text, partNumbers, numbersLine, partLine, endLine, stoppedLine, refusedLine}
+use Rattle.line.specs.Lines.{Text, partNumbers, partLineOf, partLine, endLine, stoppedLine, refusedLine}
 use Rattle.lines.specs.Listing.{itemLines, linesAfter, linesNext, linesRun, walkLines, tableRefused, baseLines, checkedLines, listingOf}
 use Rattle.gather.specs.Gather.{itemLine, partsFor, allNumbers}
-use Rattle.lines.specs.Making.{numberLines, partsToCome, toComeAt, toCome, anyAt}
+use Rattle.lines.specs.Making.{partLinesOf, partsToCome, toComeAt, toCome, anyAt}
 use Rattle.lines.specs.Pages.{any}
 use Rattle.lines.specs.declared.Making.{Making}
 use Rattle.lines.specs.declared.Stage.{Stage}
@@ -44,12 +44,12 @@ number-line p ns rest k e =
           ∙ drop-at (partNumbers p) rest 5 refl,
     )
 
-pub number-lines : (ps : List Part) (ns : List ℕ) → take (5 * length ps) ns ≡ allNumbers ps → numberLines (length ps) ns ≡ map partLine ps
-unfolding numberLines allNumbers partLine
-number-lines [] ns e = refl
-number-lines (p ∷ ps) ns e =
+pub part-lines : (ps : List Part) (ns : List ℕ) → take (5 * length ps) ns ≡ allNumbers ps → partLinesOf (length ps) ns ≡ map partLine ps
+unfolding partLinesOf allNumbers partLine
+part-lines [] ns e = refl
+part-lines (p ∷ ps) ns e =
     let w = number-line p ns (allNumbers ps) (length ps) e in
-    ap (λ (x : List ℕ). numbersLine x ∷ numberLines (length ps) (drop 5 ns)) (w .0) ∙ ap (λ (x : List Text). partLine p ∷ x) (number-lines ps (drop 5 ns) (w .1))
+    ap (λ (x : List ℕ). partLineOf x ∷ partLinesOf (length ps) (drop 5 ns)) (w .0) ∙ ap (λ (x : List Text). partLine p ∷ x) (part-lines ps (drop 5 ns) (w .1))
 
 module _ (s : List ℕ) (n : RecordNumber) (look : RecordNumber → Option (List ℕ)) where
   -- a call of the walk that answered with a

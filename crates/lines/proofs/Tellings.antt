@@ -30,16 +30,16 @@ use Rattle.items.specs.declared.Walked.{Walked}
 use Rattle.items.proofs.Rests.{no-list-lies}
 use Rattle.items.proofs.Kept.{next-lies, item-lies, measure-small}
 use Rattle.text.specs.Put.{Put}
-use Rattle.line.specs.Lines.{Text, recordLine, numbersLine, partLine, refusedLine}
+use Rattle.line.specs.Lines.{Text, recordLine, partLineOf, partLine, refusedLine}
 use Rattle.lines.specs.Listing.{walkLines, openedLines, baseLines}
 use Rattle.gather.specs.Gather.{itemLine, partsFor, Gathers}
-use Rattle.lines.specs.Making.{baseBytes, baseNumber, Based, numberLines, partsToCome, toComeAt, toCome, Going, SoundAt, Sound, Tells, ending, showing, noNumbers, stageOf, beginning}
+use Rattle.lines.specs.Making.{baseBytes, baseNumber, Based, partLinesOf, partsToCome, toComeAt, toCome, Going, SoundAt, Sound, Tells, ending, showing, noNumbers, stageOf, beginning}
 use Rattle.line.specs.declared.Gathered.{Gathered}
 use Rattle.lines.specs.declared.Making.{Making}
 use Rattle.lines.specs.declared.Stage.{Stage}
 use Rattle.lines.specs.declared.Stage.the-variants as stage
 use Rattle.lines.specs.declared.Told.{Told}
-use Rattle.lines.proofs.Comes.{number-lines, sinks, walk-gives}
+use Rattle.lines.proofs.Comes.{part-lines, sinks, walk-gives}
 
 pub tells : {before after : List Text} {d e : List ℕ} {at : ℕ} (r : Told) (line : Text) → r .more ≡ true → before ≡ line ∷ after → Put d at e (r .end) line 256
     → Tells before after d at e r
@@ -71,9 +71,9 @@ onwards h w k c = record { stage = stage.Items; h = h; walk = w; reads = k; show
 
 -- what is to come there: the lines of its parts, and then those of the walk
 onwards-come : (t : List ℕ) (h : Numbers) (w : State) (k c : ℕ) (ns : List ℕ)
-    → toCome t (onwards h w k c) ns ≡ numberLines c ns ++ walkLines (baseBytes t h) (baseNumber t h) (recordOf t) k w
+    → toCome t (onwards h w k c) ns ≡ partLinesOf c ns ++ walkLines (baseBytes t h) (baseNumber t h) (recordOf t) k w
 unfolding toCome toComeAt partsToCome
-onwards-come t h w k c ns = ap (λ (x : ℕ). numberLines x ns ++ walkLines (baseBytes t h) (baseNumber t h) (recordOf t) k w) (omega arith)
+onwards-come t h w k c ns = ap (λ (x : ℕ). partLinesOf x ns ++ walkLines (baseBytes t h) (baseNumber t h) (recordOf t) k w) (omega arith)
 
 module _ (t : List ℕ) (m : Making) (going : Going t m) where
   abbrev base : List ℕ
@@ -98,13 +98,13 @@ module _ (t : List ℕ) (m : Making) (going : Going t m) where
       item-comes =
           walk-gives base number (recordOf t) (m .reads) (m .walk) r a i e f g
           ∙ ap (λ (x : List Text). itemLine base number (recordOf t) i ∷ (x ++ walkLines base number (recordOf t) (m .reads + r .reads + partsFor base number (recordOf t) i .reads) (r .left))) (sym (shown-parts))
-          ∙ ap (λ (x : ℕ). itemLine base number (recordOf t) i ∷ (numberLines (p .count) ns ++ walkLines base number (recordOf t) (m .reads + r .reads + x) (r .left))) (sym (w .reads))
+          ∙ ap (λ (x : ℕ). itemLine base number (recordOf t) i ∷ (partLinesOf (p .count) ns ++ walkLines base number (recordOf t) (m .reads + r .reads + x) (r .left))) (sym (w .reads))
           ∙ ap (λ (x : List Text). itemLine base number (recordOf t) i ∷ x) (sym (onwards-come t (m .h) (r .left) (m .reads + r .reads + p .reads) (p .count) ns))
         where
-          shown-parts : numberLines (p .count) ns ≡ map partLine (partsFor base number (recordOf t) i .parts)
+          shown-parts : partLinesOf (p .count) ns ≡ map partLine (partsFor base number (recordOf t) i .parts)
           shown-parts =
-              ap (λ (x : ℕ). numberLines x ns) (w .count)
-              ∙ number-lines (partsFor base number (recordOf t) i .parts) ns (ap (λ (x : ℕ). take (5 * x) ns) (sym (w .count)) ∙ w .kept)
+              ap (λ (x : ℕ). partLinesOf x ns) (w .count)
+              ∙ part-lines (partsFor base number (recordOf t) i .parts) ns (ap (λ (x : ℕ). take (5 * x) ns) (sym (w .count)) ∙ w .kept)
 
       pub item-sound : r .reads ≤ mostReads → p .reads ≤ 1052929 → p .count ≤ 157 → Going t (onwards (m .h) (r .left) (m .reads + r .reads + p .reads) (p .count))
       item-sound x y z =
@@ -119,13 +119,13 @@ module _ (t : List ℕ) (m : Making) (going : Going t m) where
 
   -- a part's line
   pub part-comes : (ns : List ℕ) (end : ℕ) → m .shown < m .count
-      → toComeAt t m ns stage.Items ≡ numbersLine (take 5 (drop (5 * m .shown) ns)) ∷ toCome t (showing m end .next) ns
-  unfolding toCome toComeAt partsToCome numberLines
+      → toComeAt t m ns stage.Items ≡ partLineOf (take 5 (drop (5 * m .shown) ns)) ∷ toCome t (showing m end .next) ns
+  unfolding toCome toComeAt partsToCome partLinesOf
   part-comes ns end l =
       let k : m .count - m .shown ≡ suc (m .count - (m .shown + 1)) = omega arith in
       let j : 5 * m .shown + 5 ≡ 5 * (m .shown + 1) = omega arith in
-      ap (λ (x : ℕ). numberLines x (drop (5 * m .shown) ns) ++ walkLines base number (recordOf t) (m .reads) (m .walk)) k
-      ∙ ap (λ (x : List ℕ). numbersLine (take 5 (drop (5 * m .shown) ns)) ∷ (numberLines (m .count - (m .shown + 1)) x ++ walkLines base number (recordOf t) (m .reads) (m .walk)))
+      ap (λ (x : ℕ). partLinesOf x (drop (5 * m .shown) ns) ++ walkLines base number (recordOf t) (m .reads) (m .walk)) k
+      ∙ ap (λ (x : List ℕ). partLineOf (take 5 (drop (5 * m .shown) ns)) ∷ (partLinesOf (m .count - (m .shown + 1)) x ++ walkLines base number (recordOf t) (m .reads) (m .walk)))
       (drop-drop 5 (5 * m .shown) ns ∙ ap (λ (x : ℕ). drop x ns) j)
 
   pub part-sound : (end : ℕ) → Going t (showing m end .next)
@@ -133,10 +133,10 @@ module _ (t : List ℕ) (m : Making) (going : Going t m) where
 
   -- no part is left
   pub walk-comes : (ns : List ℕ) → m .count ≤ m .shown → toComeAt t m ns stage.Items ≡ walkLines base number (recordOf t) (m .reads) (m .walk)
-  unfolding toComeAt partsToCome numberLines
+  unfolding toComeAt partsToCome partLinesOf
   walk-comes ns l =
       let k : m .count - m .shown ≡ 0 = omega arith in
-      ap (λ (x : ℕ). numberLines x (drop (5 * m .shown) ns) ++ walkLines base number (recordOf t) (m .reads) (m .walk)) k
+      ap (λ (x : ℕ). partLinesOf x (drop (5 * m .shown) ns) ++ walkLines base number (recordOf t) (m .reads) (m .walk)) k
 
 -- the base row's own index
 base-is : (h : Numbers) (i : ℕ) → baseRow h ≡ some i → h .base ≡ i
@@ -146,7 +146,7 @@ base-is h i e = the-some (not-first _ _ _ _ e none-some .1)
 -- the first line of a base record
 begun-comes : (t : List ℕ) (h : Numbers) (ns : List ℕ) (end : ℕ) (a : Answer Unit)
     → openedLines (baseBytes t h) (baseNumber t h) (recordOf t) a ≡ toCome t (beginning h (baseBytes t h) a end .next) ns
-unfolding openedLines toCome toComeAt stageOf numberLines
+unfolding openedLines toCome toComeAt stageOf partLinesOf
 begun-comes t h ns end (gives u) = sym (onwards-come t h (freshOf (baseBytes t h)) 0 0 ns)
 begun-comes t h ns end ends = refl
 begun-comes t h ns end (refuses r) = refl
@@ -215,12 +215,12 @@ module _ (t : List ℕ) (m : Making) (s : List ℕ) (n : RecordNumber) (based : 
 
 -- one part's line, told
 pub shown-told : {d e : List ℕ} {at : ℕ} (t : List ℕ) (m : Making) (going : Going t m) (ns ns′ : List ℕ) (r : Told) → m .shown < m .count
-    → Put d at e (r .end) (numbersLine (take 5 (drop (5 * m .shown) ns))) 256 → ns′ ≡ ns → r ≡ showing m (r .end)
+    → Put d at e (r .end) (partLineOf (take 5 (drop (5 * m .shown) ns))) 256 → ns′ ≡ ns → r ≡ showing m (r .end)
     → Tells (toComeAt t m ns stage.Items) (toCome t (r .next) ns′) d at e r × (Sound t (r .next) × (length ns′ ≡ length ns))
 shown-told {d} {e} {at} t m going ns ns′ r l p q z = (
-  tells r (numbersLine (take 5 (drop (5 * m .shown) ns))) (ap (λ (k : Told). k .more) z)
+  tells r (partLineOf (take 5 (drop (5 * m .shown) ns))) (ap (λ (k : Told). k .more) z)
       (part-comes t m going ns (r .end) l
-      ∙ ap (λ (k : List Text). numbersLine (take 5 (drop (5 * m .shown) ns)) ∷ k) (ap (λ (k : Told). toCome t (k .next) ns) (sym z) ∙ ap (toCome t (r .next)) (sym q))) p,
+      ∙ ap (λ (k : List Text). partLineOf (take 5 (drop (5 * m .shown) ns)) ∷ k) (ap (λ (k : Told). toCome t (k .next) ns) (sym z) ∙ ap (toCome t (r .next)) (sym q))) p,
   (subst (λ (k : Told). Sound t (k .next)) (sym z) (part-sound t m going (r .end)), ap length q),
 )
 

@@ -16,7 +16,7 @@ use Rattle.items.specs.Start.{freshOf}
 use Rattle.items.specs.Items.{measure, mostReads}
 use Rattle.turns.specs.declared.State.{State}
 use Rattle.text.specs.Put.{Put}
-use Rattle.line.specs.Lines.{Text, numbersLine, stoppedLine}
+use Rattle.line.specs.Lines.{Text, partLineOf, stoppedLine}
 use Rattle.lines.specs.Listing.{walkLines, listingOf}
 use Rattle.lines.specs.declared.Making.{Making}
 use Rattle.lines.specs.declared.Stage.{Stage}
@@ -36,13 +36,13 @@ pub record Based (t : List ℕ) (h : Numbers) (base : List ℕ) (n : RecordNumbe
   pub number : n ≡ baseNumber t h
 
 -- k part lines, from their numbers
-unfoldable pub numberLines : ℕ → List ℕ → List Text
-numberLines zero ns = []
-numberLines (suc k) ns = numbersLine (take 5 ns) ∷ numberLines k (drop 5 ns)
+unfoldable pub partLinesOf : ℕ → List ℕ → List Text
+partLinesOf zero ns = []
+partLinesOf (suc k) ns = partLineOf (take 5 ns) ∷ partLinesOf k (drop 5 ns)
 
 -- the part lines that are still to come
 unfoldable pub partsToCome : Making → List ℕ → List Text
-partsToCome m ns = numberLines (m .count - m .shown) (drop (5 * m .shown) ns)
+partsToCome m ns = partLinesOf (m .count - m .shown) (drop (5 * m .shown) ns)
 
 unfoldable pub toComeAt : List ℕ → Making → List ℕ → Stage → List Text
 toComeAt t m ns stage.Start = listingOf t

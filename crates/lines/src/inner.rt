@@ -19,7 +19,7 @@ ghost use Rattle.table.specs.Check.{tableOf};
 ghost use Rattle.table.specs.Held.{recordOf, baseOf};
 ghost use Rattle.turns.specs.State.{state, noList, noKey};
 ghost use Rattle.text.specs.Put.{Put};
-ghost use Rattle.line.specs.Lines.{numbersLine, recordLine, refusedLine};
+ghost use Rattle.line.specs.Lines.{partLineOf, recordLine, refusedLine};
 ghost use Rattle.lines.specs.Listing.{walkLines, baseLines, listingOf};
 ghost use Rattle.lines.specs.Making.{toComeAt, toCome, anyAt, Based, Going, Sound, Tells, ending, showing, noNumbers, stageOf, beginning};
 ghost use Rattle.lines.specs.Pages.{Pages, pageOf};
@@ -100,7 +100,7 @@ fn walk_line<'a>(
 fn part_line(m: Making, numbers: &mut [u64], out: &mut [u8], at: usize) -> Told
     requires { ⌜ (m .shown < m .count) × (m .count ≤ 157) ⌝ }
     requires { ⌜ (785 ≤ length (now numbers)) × (at + 256 ≤ length (now out)) ⌝ }
-    ensures { λ r. ⌜ Put (now (out .entry)) at (now (out .exit)) (r .end) (numbersLine (take 5 (drop (5 * m .shown) (now (numbers .entry))))) 256 ⌝ }
+    ensures { λ r. ⌜ Put (now (out .entry)) at (now (out .exit)) (r .end) (partLineOf (take 5 (drop (5 * m .shown) (now (numbers .entry))))) 256 ⌝ }
     ensures { λ r. ⌜ (now (numbers .exit) ≡ now (numbers .entry)) × (r ≡ showing m (r .end)) ⌝ }
 {
     let from = 5 * m.shown;
@@ -148,19 +148,10 @@ fn refused(out: &mut [u8], at: usize) -> Told
     ensures { λ r. ⌜ r ≡ ending noNumbers (state 0 noList noKey) (r .end) ⌝ }
 {
     let end = line::inner::refused_line(out, at);
-    let h = Numbers {
-        count: 0,
-        size: 0,
-        directory: 0,
-        records: 0,
-        base: 0,
-    };
-    let w = State {
-        raw: 0,
-        list: turns::inner::no_list(),
-        key: turns::inner::no_key(),
-    };
-    done(h, w, end)
+    let none = crate::start();
+    let h = none.h;
+    let walk = none.walk;
+    done(h, walk, end)
 }
 
 // Whether the walk of a base record begins, or the listing stops by an opening check.

@@ -4,11 +4,11 @@ use mathlib.Core.Path.{_≡_, refl, sym, ap, _∙_, subst}
 use mathlib.Core.List.{List, [], _∷_, _++_, append-assoc, append-nil}
 use mathlib.Core.Option.{Option}
 use native.Mathlib.Nat.{not-suc-le-zero, zero-add, add-assoc}
-use native.Mathlib.Numerals.{add-one}
 use native.Mathlib.Omega.{arith}
 use borrow.Author.Tests.{ltb-true}
 use lib.ListN.{length, take, drop, set, length-set, take-append-drop}
-use lib.Seq.{take-suc-set, drop-set-lt, drop-drop, length-take-le}
+use lib.Seq.{drop-set-lt, drop-drop, length-take-le}
+use Rattle.fields.proofs.Stores.{stored}
 use Rattle.fields.specs.Answer.{Answer, gives, ends, refuses}
 use Rattle.fields.specs.declared.RecordNumber.{RecordNumber}
 use Rattle.fields.proofs.Cases.{not-second}
@@ -148,7 +148,7 @@ module _ (s : List ℕ) (n : RecordNumber) (look : RecordNumber → Option (List
         let z = h .size in let u = h .few in
         let a = w .fits in let b = w .less in
         let x : count < length parts = omega arith in
-        let taken : take (count + 1) (set parts count p) ≡ take count parts ++ (p ∷ []) = rw add-one (take-suc-set parts count p x) in
+        let taken = stored parts count p x in
         let on = partsRun s n look room (left c) (count + 1) d in
         record {
           whole =

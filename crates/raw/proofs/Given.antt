@@ -12,7 +12,7 @@ use Rattle.fields.proofs.Cases.{not-first}
 use Rattle.fields.proofs.Answers.{refused-given, ended-given, the-given, back}
 use Rattle.fields.proofs.Opens.{opened-sized}
 use Rattle.raw.specs.Attribute.{attributeAt, checkedAt, attributeOf, Inside}
-use Rattle.raw.specs.Step.{stepAt}
+use Rattle.raw.specs.Step.{stepAt, stepOf}
 use Rattle.raw.specs.declared.Attribute.{Attribute}
 
 pub record Given (s : List ℕ) (at : ℕ) (h : Attribute) : Type 0 where
@@ -47,6 +47,16 @@ of-step s n at h e =
 
 pub inside : {s : List ℕ} {at : ℕ} {h : Attribute} → Given s at h → length s ≤ 4096 → Inside s h
 inside g m = record { least = g .least; most = omega arith; small = m }
+
+-- by a public step, behind checks 1 and 2
+module _ (s : List ℕ) (n : RecordNumber) (at : ℕ) (h : Attribute) (e : stepOf s n at ≡ gives h) where
+  pub step-given : Given s at h
+  unfolding stepOf
+  step-given = of-step s n at h (back (openOf s n) (λ _. stepAt s n at) h e .next)
+
+  pub step-inside : Inside s h
+  unfolding stepOf
+  step-inside = inside step-given (opened-sized s n (back (openOf s n) (λ _. stepAt s n at) h e .gave) .most)
 
 -- by a public call, behind checks 1 and 2
 pub of-attribute : (s : List ℕ) (n : RecordNumber) (at : ℕ) (h : Attribute) → attributeOf s n at ≡ gives h → Inside s h

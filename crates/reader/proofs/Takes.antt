@@ -17,7 +17,8 @@ use Rattle.reader.specs.Take.{placeAfter, Starts, Takes}
 use Rattle.reader.specs.Trail.{answerOf, placeOf}
 use Rattle.reader.specs.declared.Reader.{Reader}
 use Rattle.reader.proofs.Settled.{same, took-settled}
-use Rattle.reader.proofs.Trails.{given, given-inside, first-place, step-there, place-on}
+use Rattle.raw.proofs.Given.{step-given, step-inside}
+use Rattle.reader.proofs.Trails.{first-place, step-there, place-on}
 
 module _ (s : List ℕ) (n : RecordNumber) where
   -- the k-th answer is the step at the k-th place, and the next place is the one after it
@@ -39,11 +40,11 @@ module _ (s : List ℕ) (n : RecordNumber) where
   unfolding placeAfter
   stands k h e =
       let g = sym (answer-at k) ∙ e in
-      let w = given s n (placeOf s n k) h g .stands in
+      let w = step-given s n (placeOf s n k) h g .stands in
       record {
         place = w;
         next = place-after k ∙ ap (placeAfter (placeOf s n k)) e ∙ ap (λ (p : ℕ). p + h .length) (sym w);
-        inside = given-inside s n (placeOf s n k) h g;
+        inside = step-inside s n (placeOf s n k) h g;
       }
 
   -- the walk stands still from the answer numbered k on: the same answer, at the same place

@@ -7,32 +7,17 @@ use native.Mathlib.Omega.{arith}
 use lib.ListN.{length}
 use denote.Ref.{RefT, now}
 use Rattle.fields.specs.Answer.{Answer, gives, ends, refuses}
-use Rattle.fields.specs.Open.{openOf}
 use Rattle.fields.specs.declared.RecordNumber.{RecordNumber}
 use Rattle.fields.specs.declared.Refusal.{Refusal}
-use Rattle.fields.proofs.Answers.{back}
-use Rattle.fields.proofs.Opens.{opened-sized}
-use Rattle.raw.specs.Attribute.{Inside}
-use Rattle.raw.specs.Step.{toldStep, stepAt, stepOf}
+use Rattle.raw.specs.Step.{toldStep, stepOf}
 use Rattle.raw.specs.declared.Attribute.{Attribute}
 use Rattle.raw.specs.declared.RawStep.{RawStep}
-use Rattle.raw.proofs.Given.{Given, of-step, inside}
+use Rattle.raw.proofs.Given.{step-given}
 use Rattle.reader.specs.Take.{placeAfter, Starts, Takes}
 use Rattle.reader.specs.Trail.{Trail, trailAfter, trailRun, trailFrom, nth, past, answerFrom, placeFrom, answerOf}
 use Rattle.reader.specs.declared.Reader.{Reader}
 
 module _ (s : List ℕ) (n : RecordNumber) where
-  -- an attribute that a step gave stands at its place, is at least 16 long and ends inside the record
-  pub given : (at : ℕ) (h : Attribute) → stepOf s n at ≡ gives h → Given s at h
-  unfolding stepOf
-  given at h e = of-step s n at h (back (openOf s n) (λ _. stepAt s n at) h e .next)
-
-  pub given-inside : (at : ℕ) (h : Attribute) → stepOf s n at ≡ gives h → Inside s h
-  unfolding stepOf
-  given-inside at h e =
-      let t = back (openOf s n) (λ _. stepAt s n at) h e in
-      inside (of-step s n at h (t .next)) (opened-sized s n (t .gave) .most)
-
   turned : (f g at : ℕ) → ((p : ℕ) → length s - p < f → length s - p < g → trailRun s n f p ≡ trailRun s n g p)
       → (a : Answer Attribute) → stepOf s n at ≡ a → length s - at < suc f → length s - at < suc g
       → trailAfter (trailRun s n f) at a ≡ trailAfter (trailRun s n g) at a
@@ -40,7 +25,7 @@ module _ (s : List ℕ) (n : RecordNumber) where
   turned f g at ih ends e h h′ = refl
   turned f g at ih (refuses r) e h h′ = refl
   turned f g at ih (gives x) e h h′ =
-      let w = given at x e in
+      let w = step-given s n at x e in
       let l = w .least in let m = w .most in
       ap (λ (t : Trail). trailAfter (λ _. t) at (gives x)) (ih (at + x .length) (omega arith) (omega arith))
 
@@ -91,7 +76,7 @@ module _ (s : List ℕ) (n : RecordNumber) where
   behind : (at : ℕ) (h : Attribute) → stepOf s n at ≡ gives h → trailRun s n (length s - at) (at + h .length) ≡ trailFrom s n (at + h .length)
   unfolding trailFrom
   behind at h e =
-      let w = given at h e in
+      let w = step-given s n at h e in
       let l = w .least in let m = w .most in
       enough (length s - at) (suc (length s - (at + h .length))) (at + h .length) (omega arith) (omega arith)
 

@@ -50,6 +50,31 @@ spelled-upto (suc f) (suc (suc k)) n h w =
     ∙ ap (λ (x : List ℕ). digitsUpTo f (n / 10) ++ x) (digit-list (n % 10) (n % 10) (omega arith) refl)
     ∙ sym (high f n g)
 
+-- room for more digits than there are changes nothing
+shorter : (f n : ℕ) → digitsUpTo f (n / 10) ≡ digitsUpTo (suc f) (n / 10) → (b : Bool) → ltb n 10 ≡ b → digitsUpTo (suc f) n ≡ digitsUpTo (suc (suc f)) n
+shorter f n i true e = low f n (ltb-true n 10 e) ∙ sym (low (suc f) n (ltb-true n 10 e))
+shorter f n i false e =
+    let g : 10 ≤ n = omega (arith, ltb-false n 10 e) in
+    high f n g ∙ ap (λ (x : List ℕ). x ++ ((48 + n % 10) ∷ [])) i ∙ sym (high (suc f) n g)
+
+roomier : (f n : ℕ) → n < 10 ^ suc f → digitsUpTo (suc f) n ≡ digitsUpTo (suc (suc f)) n
+roomier zero n h = let l : n < 10 = h in low 0 n l ∙ sym (low 1 n l)
+roomier (suc f) n h =
+    let p : 10 ^ suc (suc f) ≡ 10 ^ suc f * 10 = pow-suc 10 (suc f) in
+    shorter (suc f) n (roomier f (n / 10) (omega arith)) (ltb n 10) refl
+
+-- the one digit of a short number, and the last digit of a longer one behind the others
+pub first-digit : (n b : ℕ) → n < 10 → b ≡ 48 + n → b ∷ [] ≡ decimal n
+unfolding decimal
+first-digit n b h e = ap (λ (x : ℕ). x ∷ []) e ∙ sym (low 19 n h)
+
+pub next-digit : (n b : ℕ) {t : List ℕ} → 10 ≤ n → n < 18446744073709551616 → t ≡ decimal (n / 10) → b ≡ 48 + n % 10 → t ++ (b ∷ []) ≡ decimal n
+unfolding decimal
+next-digit n b g h i e =
+    ap (λ (x : List ℕ). x ++ (b ∷ [])) (i ∙ sym (roomier 18 (n / 10) (omega arith)))
+    ∙ ap (λ (x : ℕ). digitsUpTo 19 (n / 10) ++ (x ∷ [])) e
+    ∙ sym (high 19 n g)
+
 twenty-by : (k n : ℕ) → n < 18446744073709551616 → Fewest 10 1 n k → (b : Bool) → ltb 20 k ≡ b → k ≤ 20
 twenty-by k n h w false e = omega (arith, ltb-false 20 k e)
 twenty-by k n h w true e =

@@ -5,12 +5,9 @@ use native.Mathlib.Omega.{arith}
 use mathlib.Core.Path.{_≡_, refl, sym, _∙_, ap}
 use mathlib.Core.List.{List, [], _∷_, _++_, append-assoc, append-nil}
 use lib.ListN.{length, take, drop, getD, set, length-append}
-use lib.Seq.{take-suc, take-suc-set, take-all, take-paste, drop-drop, length-take-le, paste, paste-suc}
+use lib.Seq.{take-suc, take-all, take-paste, drop-drop, length-take-le, paste, paste-suc}
 use Rattle.text.specs.Decimal.{decimal, numbers}
 use Rattle.text.specs.Put.{Put}
-
-pub stored : (d : List ℕ) (n : ℕ) (b : ℕ) → n < length d → take (n + 1) (set d n b) ≡ take n d ++ (b ∷ [])
-stored d n b h = rw add-one (take-suc-set d n b h)
 
 pub copied : (d : List ℕ) (n : ℕ) (s : List ℕ) (i : ℕ) → i ≡ length s → n ≤ length d → take (n + i) (paste d n s i) ≡ take n d ++ s
 copied d n s i e h = let l : length s ≤ i = omega arith in take-paste d n s i h (omega arith) ∙ ap (λ (t : List ℕ). take n d ++ t) (take-all i s l)

@@ -1,5 +1,5 @@
 -- A walk of the loop's own statements: the lent list is opened once before the loop and closed once behind it, a turn writes one record and calls `next`,
--- and what a turn keeps is `Kept`. Of `first` and `next` only their contracts are used.
+-- and what a turn keeps is `Kept`; a standing's fields are read by `Look`. Of `first` and `next` only their contracts are used.
 use mathlib.Core.Path.{_≡_, refl, sym, ap, subst}
 use mathlib.Core.Bool.{Bool, true, false}
 use mathlib.Core.List.{[], _∷_, List}

@@ -11,7 +11,7 @@ use Rattle.raw.specs.Step.{toldStep, stepOf}
 use Rattle.raw.specs.declared.Attribute.{Attribute}
 use Rattle.raw.specs.declared.RawStep.{RawStep}
 use Rattle.reader.specs.Take.{placeAfter, Moves}
-use Rattle.reader.proofs.Trails.{given}
+use Rattle.raw.proofs.Given.{step-given}
 use Rattle.reader.proofs.step.Statement.{statement}
 use Rattle.reader.proofs.step.Tie as tie
 
@@ -28,7 +28,7 @@ enum-known-answer c = search needs
 
 add-t7 : tie.Need-add-t7
 add-t7 c =
-    let w = given _ _ _ _ (sym (told toldStep (c .before .before .before .before .step .ensures) (c .before .before .answer .given .1))) .most in
+    let w = step-given _ _ _ _ (sym (told toldStep (c .before .before .before .before .step .ensures) (c .before .before .answer .given .1))) .most in
     omega arith
 
 enum-told : tie.Need-enum-told

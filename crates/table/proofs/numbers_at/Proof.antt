@@ -1,4 +1,4 @@
--- Each field is the number at its place.
+-- Each field is the number at its place: so the two records are equal field by field.
 use Rattle.table.specs.Layout.{numbersAt}
 use borrow.Author.Needs.{needs}
 use Rattle.table.proofs.numbers_at.Statement.{statement}
@@ -21,7 +21,13 @@ u32-at-requires-5 c κs = search needs
 
 returns : tie.Need-returns
 unfolding numbersAt
-returns c = cc
+returns c = λ i. record {
+  count = c .before .before .before .before .u32-at .ensures i;
+  size = c .before .before .before .u32-at2 .ensures i;
+  directory = c .before .before .u32-at3 .ensures i;
+  records = c .before .u32-at4 .ensures i;
+  base = c .u32-at5 .ensures i;
+}
 
 pub numbers-at-spec : {M : Type 1} → statement M
 numbers-at-spec =

@@ -5,7 +5,7 @@ use Prim.Native.Nat.{_-_}
 use borrow.Author.Needs.{needs}
 use Rattle.text.specs.Words.{word, bytesFrom}
 use Rattle.text.proofs.Puts.{both, said}
-use Rattle.line.specs.Lines.{numbersLine}
+use Rattle.line.specs.Lines.{partLineOf}
 use Rattle.line.proofs.inner.part_line.Statement.{statement}
 use Rattle.line.proofs.inner.part_line.Tie as tie
 
@@ -22,7 +22,7 @@ same-length : tie.Need-same-length
 same-length c = search needs
 
 returns : tie.Need-returns
-unfolding numbersLine word bytesFrom
+unfolding partLineOf word bytesFrom
 returns c = said (both (c .before .before .before .before .before .before .put-words .ensures) (c .before .before .put-byte .ensures)) refl (omega arith)
 
 pub part-line-spec : {M : Type 1} → statement M

@@ -5,7 +5,7 @@ use mathlib.Core.Path.{_≡_, refl, ap}
 use Prim.Native.Nat.{ℕ, _+_, _*_, _-_}
 use borrow.Author.Needs.{needs}
 use Rattle.text.proofs.Puts.{said}
-use Rattle.line.specs.Lines.{numbersLine}
+use Rattle.line.specs.Lines.{partLineOf}
 use Rattle.lines.proofs.inner.part_line.Statement.{statement}
 use Rattle.lines.proofs.inner.part_line.Tie as tie
 
@@ -40,7 +40,7 @@ same-length-2 : tie.Need-same-length-2
 same-length-2 c = search needs
 
 returns : tie.Need-returns
-returns c = let q : 5 * c .before .before .before .before .before .before .before .before .before .before .before .before .args .m .shown + 5 - 5 * c .before .before .before .before .before .before .before .before .before .before .before .before .args .m .shown ≡ 5 = omega arith in (said (c .before .before .before .before .before .part-line .ensures) (ap (λ (k : ℕ). numbersLine (take k (drop (5 * c .before .before .before .before .before .before .before .before .before .before .before .before .args .m .shown) (c .before .before .before .before .before .before .before .before .before .before .before .before .args .numbers .now)))) q) (omega arith), (refl, refl))
+returns c = let q : 5 * c .before .before .before .before .before .before .before .before .before .before .before .before .args .m .shown + 5 - 5 * c .before .before .before .before .before .before .before .before .before .before .before .before .args .m .shown ≡ 5 = omega arith in (said (c .before .before .before .before .before .part-line .ensures) (ap (λ (k : ℕ). partLineOf (take k (drop (5 * c .before .before .before .before .before .before .before .before .before .before .before .before .args .m .shown) (c .before .before .before .before .before .before .before .before .before .before .before .before .args .numbers .now)))) q) (omega arith), (refl, refl))
 
 pub part-line-spec : {M : Type 1} → statement M
 part-line-spec =

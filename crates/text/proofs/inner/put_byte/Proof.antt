@@ -4,7 +4,7 @@ use Prim.Native.Nat.{_+_, _-_, _<_}
 use lib.ListN.{length, length-set}
 use lib.Seq.{drop-set-lt}
 use borrow.Author.Needs.{needs}
-use Rattle.text.proofs.Puts.{stored}
+use Rattle.fields.proofs.Stores.{stored}
 use Rattle.text.proofs.inner.put_byte.Statement.{statement}
 use Rattle.text.proofs.inner.put_byte.Tie as tie
 
