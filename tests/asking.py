@@ -5,6 +5,8 @@ is the one that this very run proved.
 """
 import os
 import platform
+import re
+import struct
 import subprocess
 import sys
 import tempfile
@@ -41,7 +43,27 @@ def run(name, text):
         if status != 0:
             sys.exit("%s ended with status %d" % (name, status))
         written.seek(0)
-        return written.read().decode("ascii", "backslashreplace")
+        # a character for each byte: the bytes of a name or a value are written as they are
+        return written.read().decode("latin-1")
+
+
+# A question's head, as crates/words reads it.
+HEAD = struct.Struct("<BQQQBQQBIHHII")
+# How many bytes a question's record and table may have together.
+ROOM = 131072
+
+
+def question(kind, number, record=b"", table=b"", place=0, wanted=0, rest=(0, 0, 0), key=(0, 0, 0), most=0):
+    """A question packed: `rest` is a list by its flag, start and end, `key` a flag, a type and an instance, and `most` how many
+    turns, parts or refusals."""
+    return HEAD.pack(kind, number, place, wanted, *rest, *key, most, len(record), len(table)) + record + table
+
+
+def cuts(q):
+    """Places where a question can be cut: in its head, its record and its table, and where each begins and ends."""
+    whole = HEAD.size + len(q.record) + len(q.table)
+    places = (0, 1, HEAD.size - 8, HEAD.size - 4, HEAD.size - 1, HEAD.size, HEAD.size + 1, whole - len(q.table), whole - len(q.table) + 1, whole - 1)
+    return [at for at in places if at < whole]
 
 
 def of(call, *given):
@@ -62,14 +84,24 @@ def said(answer, words):
 
 
 def said_bytes(word, given):
-    return " ".join([word, str(len(given))] + [str(b) for b in given])
+    return "%s %d %s" % (word, len(given), given.decode("latin-1"))
+
+
+# The front of a line that ends in bytes, up to these: they may hold an end of line.
+BYTES = re.compile(r"[a-z0-9 ]*\b(?:view|name) (\d+) ")
+
+
+def end_of_line(text, at):
+    """Where the line at a place ends, or -1 where the text ends before it does."""
+    front = BYTES.match(text, at)
+    return text.find("\n", front.end() + int(front.group(1)) if front else at)
 
 
 class Asker:
     """Gathers questions with their expected answers, asks them in batches, and stops the test at a difference.
 
-    A test says which program answers (PROGRAM), its calls by the kind of question (CALLS), the size of a question's
-    head (HEAD), how a question is packed and shown, and what is expected.
+    A test says which program answers (PROGRAM), its calls by the kind of question (CALLS), how a question is packed and shown,
+    and what is expected.
     """
 
     BATCH = 32_000_000
@@ -108,7 +140,7 @@ class Asker:
             self.flush()
 
     def weight(self, q):
-        return self.HEAD + len(q.record)
+        return HEAD.size + len(q.record) + len(q.table)
 
     def put_question(self, q):
         self.ask(q, self.expected(q))
@@ -157,7 +189,7 @@ class Asker:
         for q in questions:
             start = at
             while True:
-                end = text.find("\n", at)
+                end = end_of_line(text, at)
                 if end < 0:
                     cut.append(text[start:])
                     at = len(text)
@@ -210,7 +242,7 @@ class Asker:
     def cut(self, q):
         """A question that is cut ends the program, without an answer to it."""
         whole = self.packed(q)
-        for cut in (0, 1, self.HEAD - 1, self.HEAD, self.HEAD + 1, len(whole) - 1):
+        for cut in cuts(q):
             text = run(self.PROGRAM, whole + whole[:cut])
             self.stop_at(self.differences([q], [self.expected(q)], text), 1)
 
@@ -220,7 +252,7 @@ class Asker:
         folder = os.path.join(ROOT, "crates", self.PROGRAM)
         return (
             (os.path.join(folder, "stdin"), b"".join(map(self.packed, questions))),
-            (os.path.join(folder, "stdout"), "".join(self.expected(q) + "\n" for q in questions).encode()),
+            (os.path.join(folder, "stdout"), "".join(self.expected(q) + "\n" for q in questions).encode("latin-1")),
         )
 
     def write_samples(self, questions):

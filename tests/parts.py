@@ -1,7 +1,7 @@
 """Holds the parts of an item, as built, to the second reading of document 01 (parts_reading.py) and to answers of the Rust.
 
-Every question goes to the program `ask_parts` and every line that it writes is compared. Fails at any difference.
-`python3 tests/parts.py sample` writes the files stdin and stdout of the crate ask_parts, which rt ci runs it on.
+Every question goes to the program `walk` and every line that it writes is compared. Fails at any difference.
+`python3 tests/parts.py sample` writes the files stdin and stdout of the crate walk, which rt ci runs it on.
 """
 import collections
 import os
@@ -24,7 +24,9 @@ from walk_reading import NO_LIST, Rest
 
 ROOT = asking.ROOT
 LAST = asking.LAST
-COLLECT, WITHIN, WALK = KINDS = range(3)
+COLLECT, WITHIN, WALK = range(3)
+# the program's kinds of the item walk come before these
+BEFORE = len(items.KINDS)
 
 SEED = 20240703
 DAMAGED, RANDOM, STREAMS, CHAINED, LARGE = 5_000, 5_000, 12_000, 3_000, 40
@@ -51,8 +53,7 @@ def placed(ty, instance, lowest=0, length=64, runs=64, size=4000, inside=b""):
 
 
 class Test(asking.Asker):
-    PROGRAM = "ask_parts"
-    HEAD = 36
+    PROGRAM = "walk"
     CALLS = ("parts::collect", "lent::list_within", "items::next from fresh on, with parts::collect for each item")
 
     def __init__(self):
@@ -62,23 +63,19 @@ class Test(asking.Asker):
         self.lines = 0
 
     def packed(self, q):
-        return struct.pack(
-            "<BQBQQHHH", q.kind, q.number, *q.rest, q.room, q.on, len(q.record),
-        ) + q.record + struct.pack("<I", len(q.table)) + q.table
+        most = q.on if q.kind == WALK else q.room
+        return asking.question(BEFORE + q.kind, q.number, q.record, q.table, rest=q.rest, most=most)
 
     def shown(self, q):
         return q._replace(record="%d bytes" % len(q.record), table="%d bytes" % len(q.table))
 
-    def weight(self, q):
-        return self.HEAD + len(q.record) + len(q.table)
-
     def expected(self, q):
         if q.kind == WALK:
-            return parts_reading.said_walk(parts_reading.walk(q.record, q.number, q.table, q.on), q.on)
+            return parts_reading.said_walk(parts_reading.walk(q.record, q.number, q.table, q.on))
         return parts_reading.said(*parts_reading.parts_of(q.record, q.number, q.table, q.rest, q.room if q.kind == WITHIN else ROOM))
 
     def goes_on(self, q, line):
-        return q.kind == WALK and not line.startswith(("end ", "stopped "))
+        return q.kind == WALK and line != "over"
 
     def ask(self, q, answer):
         """Also counts how parts end: by what, in the first part or behind others."""
@@ -92,6 +89,10 @@ class Test(asking.Asker):
             where = "opening" if end in (1, 21, 22) or end == 2 and words[7] == "0" else "later" if count else "first"
             self.endings[where, end] += 1
         super().ask(q, answer)
+
+    def sample_files(self, questions):
+        """Behind those of items.py, which asks the same program."""
+        return tuple((path, front + text) for (path, front), (_, text) in zip(items.sample_files(), super().sample_files(questions)))
 
     def put(self, kind, record_, table_, **more):
         self.put_question(Question(kind, record_, table_, **more))
@@ -302,7 +303,7 @@ class Test(asking.Asker):
             line = "parts %d whole reads %d" % (count, sum(reads[:count]))
             line += "".join(" part %d %d %d %d %d %d %d" % part for part in parts[:count]) + " unchanged 157"
             item = "item 41 56 128 72 0 2 rest 1 32 %d reads 3\n" % (32 + 26 * count)
-            self.put_literal_question(item + line + "\nend reads %d" % (count - 1), Question(WALK, bytes(r), t))
+            self.put_literal_question(item + line + "\nend reads %d\nover" % (count - 1), Question(WALK, bytes(r), t))
             self.classes["%d parts in a walk" % count] += 1
 
         # the most reads: each entry searches a whole record of 16-byte attributes, and its part is the last of it
@@ -541,7 +542,7 @@ def value_questions(q, answer):
 
 
 def value_told(value, parts):
-    """An item's value and the lines of its parts: `value` by the program `ask`, `parts` the line of ask_parts."""
+    """An item's value and the lines of its parts: `value` by the program `ask`, `parts` the line of `walk`."""
     words = value.split(" ")
     # the Rust has no check 7: it may say anything of a value whose header is cut
     if words[:2] == ["refused", "7"]:
@@ -571,8 +572,8 @@ def listing(answer, told):
             name = refused_told(name.split(" ")[1:]) if name.startswith("refused") else name.split(" ", 1)[1]
             value, parts = value_told(value, lines[k + 1] if words[8] == "1" else None)
             calls.append(["attr %s %s name %s value %s" % (" ".join(words[1:5]), words[6], name, value), *parts])
-        elif words[0] in ("refused", "stopped"):
-            calls.append([refused_told(words[1:] if words[0] == "refused" else words[2:])])
+        elif words[0] == "refused":
+            calls.append([refused_told(words[1:])])
             if len(calls) == 1 and words[-1] == "0" and words[-5] in ("1", "2", "21"):
                 # refused before it began
                 break
@@ -590,7 +591,7 @@ def alike(ours, theirs):
 
 
 def replay(text):
-    """The kept answers against the programs ask_parts and ask: (cases, lines, parts, what differs)."""
+    """The kept answers against the programs walk and ask: (cases, lines, parts, what differs)."""
     test, asker, cases = Test(), raw.Test(), items.kept_answers(text)
     questions = []
     for on, table_, _, _ in cases:
@@ -650,11 +651,12 @@ def cut_questions(test):
     """A question that is cut ends the program, without an answer to it."""
     q = sample(test)[0]
     whole, answer = test.packed(q), test.expected(q) + "\n"
-    for at in (0, 1, 31, 32, 33, 32 + len(q.record), 35 + len(q.record), 36 + len(q.record), len(whole) - 1):
+    for at in asking.cuts(q):
         assert asking.run(test.PROGRAM, whole + whole[:at]) == answer
-    # a table that the program's buffer has no room for ends it too
-    assert asking.run(test.PROGRAM, test.packed(q._replace(table=bytes(65537))) + whole) == ""
-    assert asking.run(test.PROGRAM, test.packed(q._replace(table=bytes(65536))) + whole).count("\n") == 2
+    # a table that the program has no room for ends it too
+    room = asking.ROOM - len(q.record)
+    assert asking.run(test.PROGRAM, test.packed(q._replace(table=bytes(room + 1))) + whole) == ""
+    assert asking.run(test.PROGRAM, test.packed(q._replace(table=bytes(room))) + whole).count("\n") == 2
 
 
 # The classes of cases by hand that have to be there, besides each refusal in the first and in a later part.

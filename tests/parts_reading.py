@@ -144,13 +144,11 @@ def said(parts, answer, reads):
     return text + "".join(" part %d %d %d %d %d %d %d" % part for part in parts) + " unchanged %d" % ROOM
 
 
-def said_walk(calls, on):
-    """The lines of a walk that goes on behind so many refusals."""
+def said_walk(calls):
+    """The lines of a walk, and one that says that it is over."""
     lines = []
     for answer, reads, parts in calls:
-        refused = isinstance(answer, Refusal)
-        lines.append("%s%s reads %d" % ("stopped " if refused and on == 0 else "", walk_reading.said(answer), reads))
+        lines.append("%s reads %d" % (walk_reading.said(answer), reads))
         if parts:
             lines.append(said(*parts))
-        on -= refused
-    return "\n".join(lines)
+    return "\n".join((*lines, "over"))

@@ -11,17 +11,17 @@ import sys
 from typing import NamedTuple
 
 import reading
-from asking import LAST, ROOT, Asker, of, said, said_bytes
+from asking import LAST, ROOT, Asker, of, question, said, said_bytes
 
 # The kinds, by the call that answers.
 (
-    HEADER, STEP, NAME, FULL, VALUE, NAME_VIEW, VALUE_VIEW, ATTRIBUTE, FIND, OPENING_IN, KNOWN_TYPE, FLAGS, WALK, LIST,
+    HEADER, OPENING_IN, KNOWN_TYPE, FLAGS, STEP, ATTRIBUTE, FIND, WALK, LIST, NAME, NAME_VIEW, FULL, VALUE, VALUE_VIEW,
     MOVED, TAKEN,
 ) = KINDS = range(16)
 CALLS = (
-    "fields::header", "raw::step", "values::name", "values::full", "values::value", "values::name_view", "values::value_view",
-    "raw::attribute_at", "raw::inner::find", "fields::opening_in", "fields::known_type", "fields::attribute_flags",
-    "raw::step, from the first attribute on", "values::inner::list_of, behind raw::attribute_at",
+    "fields::header", "fields::opening_in", "fields::known_type", "fields::attribute_flags",
+    "raw::step", "raw::attribute_at", "raw::inner::find", "raw::step, from the first attribute on",
+    "values::inner::list_of, behind raw::attribute_at", "values::name", "values::name_view", "values::full", "values::value", "values::value_view",
     "reader::step", "reader::taken",
 )
 
@@ -37,6 +37,7 @@ class Question(NamedTuple):
     ty: int = 0
     instance: int = 0
     record: bytes = b""
+    table: bytes = b""
 
 
 # What is expected, from the second reading.
@@ -137,10 +138,9 @@ END = struct.pack("<I", reading.MARKER)
 class Test(Asker):
     PROGRAM = "ask"
     CALLS = CALLS
-    HEAD = 25
 
     def packed(self, q):
-        return struct.pack("<BQQIHH", q.kind, q.number, q.place, q.ty, q.instance, len(q.record)) + q.record
+        return question(q.kind, q.number, q.record, place=q.place, key=(0, q.ty, q.instance))
 
     def shown(self, q):
         return q._replace(record="%d bytes" % len(q.record))
@@ -214,7 +214,7 @@ class Test(Asker):
         # "Non-resident length 64 with runs offset 64: empty runs."
         runs = record(128, 56, [(56, non_resident(128, 64, 64))])
         self.put_literal("value runs 120 0 40000", VALUE, runs, place=56)
-        self.put_literal("view 0", VALUE_VIEW, runs, place=56)
+        self.put_literal("view 0 ", VALUE_VIEW, runs, place=56)
         # "Slips we expect: Stopping at used size." The attribute at 88 lies wholly behind the used size.
         behind = bytearray(record(128, 56, [(56, resident(16, 32, 8)), (88, resident(128, 24, instance=1)), (112, END)]))
         struct.pack_into("<I", behind, 24, 88)

@@ -11,8 +11,9 @@ import struct
 import sys
 from typing import NamedTuple
 
+import asking
 import reading
-from asking import LAST, ROOT, Asker, of, run, said, said_bytes
+from asking import LAST, ROOT, Asker, of, question, run, said, said_bytes
 
 # The kinds, by the call that answers.
 HEADER, STEP, BASE_ROW, CHECK, OPENING, LOOKUP, VIEW = KINDS = range(7)
@@ -45,15 +46,17 @@ def told(answer):
     return said(answer, {reading.Entry: "entry", reading.Table: "table"})
 
 
+def named(name):
+    """A name as it is told: in 510 bytes, zeros behind it."""
+    return said_bytes("name", name.ljust(510, b"\0"))
+
+
 def expected(q):
     if q.kind == HEADER:
         return told(of(reading.entry, q.record, q.number, q.place))
     if q.kind == STEP:
-        # zeros at the end are not written: the name has 510 bytes, so that every one of them is told
         given = of(reading.entry, q.record, q.number, q.place)
-        name = reading.entry_name(q.record, given)
-        assert len(name) == 510
-        return "%s %s" % (told(given), said_bytes("name", name.rstrip(b"\0")))
+        return "%s %s" % (told(given), named(reading.entry_name(q.record, given)))
     if q.kind == BASE_ROW:
         row = reading.base_row(reading.Table(*struct.unpack_from("<5I", q.table)))
         return "none" if row is None else "row %d" % row
@@ -108,17 +111,12 @@ def table(rows, length, size=64, directory=20, records=None, base=None, count=No
 class Test(Asker):
     PROGRAM = "ask_table"
     CALLS = CALLS
-    HEAD = 31
 
     def packed(self, q):
-        head = struct.pack("<BQQQHI", q.kind, q.number, q.place, q.wanted, len(q.record), len(q.table))
-        return head + q.record + q.table
+        return question(q.kind, q.number, q.record, q.table, place=q.place, wanted=q.wanted)
 
     def shown(self, q):
         return q._replace(record="%d bytes" % len(q.record), table="%d bytes" % len(q.table))
-
-    def weight(self, q):
-        return self.HEAD + len(q.record) + len(q.table)
 
     def expected(self, q):
         return expected(q)
@@ -152,14 +150,13 @@ class Test(Asker):
 
     def both_sides_of_an_entry(self):
         # "entry length 28 with one name unit accepted, 27 gives 15."
-        name = " name 2 186 193"
-        self.put_literal("entry 128 28 1 0 41 3" + name, STEP, entry(28, 28, 1), place=200)
-        self.put_literal("refused 15 40 200 name 0", STEP, entry(28, 27, 1), place=200)
+        self.put_literal("entry 128 28 1 0 41 3 " + named(bytes((186, 193))), STEP, entry(28, 28, 1), place=200)
+        self.put_literal("refused 15 40 200 " + named(b""), STEP, entry(28, 27, 1), place=200)
         # "entry length 40, no name, with 32 left: end."
-        self.put_literal("end name 0", STEP, entry(32, 40, 0), place=200)
-        self.put_literal("entry 128 40 0 0 41 3 name 0", STEP, entry(40, 40, 0), place=200)
+        self.put_literal("end " + named(b""), STEP, entry(32, 40, 0), place=200)
+        self.put_literal("entry 128 40 0 0 41 3 " + named(b""), STEP, entry(40, 40, 0), place=200)
         # "26 left, length 28, one unit gives 16."
-        self.put_literal("refused 16 40 200 name 0", STEP, entry(26, 28, 1), place=200)
+        self.put_literal("refused 16 40 200 " + named(b""), STEP, entry(26, 28, 1), place=200)
         # "Nothing left: end. Else 14": "under 26 bytes left"
         self.put_literal("end", HEADER, b"", place=200)
         self.put_literal("refused 14 40 200", HEADER, entry(1, 28, 1), place=200)
@@ -191,7 +188,7 @@ class Test(Asker):
         self.put_literal("refused 17 40 9", LOOKUP, base, t, wanted=42, place=9)
         other = t[:108] + b"BAAD" + t[112:]
         self.put_literal("refused 2 41 0", LOOKUP, base, other, wanted=41, place=9)
-        self.put_literal("view 0", VIEW, base, other, wanted=41, place=9)
+        self.put_literal("view 0 ", VIEW, base, other, wanted=41, place=9)
         # "Order: 21, 1, 2"
         bad = numbers(2, 64, 20, 44, 3) + t[20:]
         self.put_literal("refused 21 0 0", LOOKUP, b"BAAD", bad, wanted=41, place=9)
@@ -599,9 +596,9 @@ def sample():
 
 
 def too_long(test):
-    """A table of 65,536 bytes is answered for; one of a byte more ends the program."""
-    most = Question(CHECK, table=table([(40, ROOM - 64)], ROOM))
-    more = Question(CHECK, table=table([(40, ROOM - 64)], ROOM + 1))
+    """A question that fills the program's room is answered; one of a byte more ends the program."""
+    t = table([(40, ROOM - 64)], ROOM)
+    most, more = (Question(CHECK, record=bytes(asking.ROOM - ROOM + k), table=t) for k in (0, 1))
     assert expected(most) == expected(more) == "table 1 64 20 32 1"
     text = run(test.PROGRAM, b"".join(map(test.packed, (most, more, most))))
     test.stop_at(test.differences([most], [expected(most)], text), 1)

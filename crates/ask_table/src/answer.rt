@@ -1,96 +1,123 @@
-// The answers of the layers `list` and `table` as words and decimal numbers.
+// A call of the layers `list` and `table`, and its answer as a line of words and decimal numbers, for each kind of question.
+use fields::RecordNumber;
+use fields::inner::u32_at;
+use list::Entry;
 use list::EntryStep;
-use list::Listed;
 use lookup::Looked;
+use table::Numbers;
 use table::RowFound;
 use table::Tested;
-use words::put_bytes;
-use words::put_refused;
-use words::put_text;
-use words::put_words;
-ghost use Prim.Native.Nat.{_≤_};
+use words::say;
+use words::tell;
+use words::tell_bytes;
+use words::tell_one;
+use words::tell_refused;
 
-pub fn put_entry(out: &mut [u8], a: EntryStep) -> usize {
+fn put_entry(e: Entry, last: u8) {
+    let lowest = e.lowest;
+    let file = e.file;
+    tell(
+        b"entry",
+        [
+            e.ty as u64,
+            e.length as u64,
+            e.units as u64,
+            lowest.0,
+            file.0,
+            e.instance as u64,
+            0,
+            0,
+        ],
+        6,
+        last,
+    )
+}
+
+fn put_step(a: EntryStep, last: u8) {
     match a {
-        EntryStep::Given(e) => {
-            let lowest = e.lowest;
-            let file = e.file;
-            put_words(
-                out,
-                0,
-                b"entry",
-                &[
-                    e.ty as u64,
-                    e.length as u64,
-                    e.units as u64,
-                    lowest.0,
-                    file.0,
-                    e.instance as u64,
-                ],
-            )
-        }
-        EntryStep::End => put_text(out, 0, b"end"),
-        EntryStep::Refused(r) => put_refused(out, 0, r),
+        EntryStep::Given(e) => put_entry(e, last),
+        EntryStep::End => say(b"end", last),
+        EntryStep::Refused(r) => tell_refused(r, last),
     }
 }
 
-// How many bytes there are without the zeros at the end.
-fn until_zeros(v: &[u8]) -> usize
-    ensures { λ r. do ⌜ r ≤ (← ⟦v.len()⟧ .entry) ⌝ }
-{
-    let mut n = v.len();
-    while n > 0 && v[n - 1] == 0 {
-        n -= 1;
-    }
-    n
+pub fn tell_entry(rest: &[u8], number: u64, place: usize) {
+    put_step(list::header(rest, RecordNumber(number), place), b'\n')
 }
 
-// All bytes of a name but the zeros at its end. A name has 510 bytes, so that these tell every one of them.
-fn put_name(out: &mut [u8], at: usize, name: &[u8]) -> usize {
-    let k = until_zeros(name);
-    put_bytes(out, at, b" name", &name[..k])
-}
-
-// The name is told whatever the answer, since it must be zeros where no entry is given.
-pub fn put_listed(out: &mut [u8], l: Listed) -> usize {
+// All 510 bytes of the name are told whatever the answer, since they must be zeros where there is none.
+pub fn tell_listed(rest: &[u8], number: u64, place: usize) {
+    let l = list::step(rest, RecordNumber(number), place);
     let a = l.answer;
     let name = l.name;
-    let end = put_entry(out, a);
-    put_name(out, end, &name)
+    put_step(a, b' ');
+    tell_bytes(b"name", &name)
 }
 
-pub fn put_tested(out: &mut [u8], t: Tested) -> usize {
-    match t {
-        Tested::Refused(r) => put_refused(out, 0, r),
-        Tested::Sound(h) => put_words(
-            out,
-            0,
-            b"table",
-            &[
-                h.count as u64,
-                h.size as u64,
-                h.directory as u64,
-                h.records as u64,
-                h.base as u64,
-            ],
-        ),
-    }
-}
-
-pub fn put_row(out: &mut [u8], r: RowFound) -> usize {
+fn put_row(r: RowFound) {
     match r {
-        RowFound::At(i) => put_words(out, 0, b"row", &[i as u64]),
-        RowFound::Missing => put_text(out, 0, b"none"),
+        RowFound::At(i) => tell_one(b"row", i as u64, b'\n'),
+        RowFound::Missing => say(b"none", b'\n'),
     }
 }
 
-pub fn put_looked(out: &mut [u8], l: Looked) -> usize {
+// The base row of a table's numbers whatever they are, since the call does not ask that they passed check 21. Fewer than 20 bytes have no answer.
+pub fn tell_base_row(t: &[u8]) {
+    if t.len() < 20 {
+        return;
+    }
+    let h = Numbers {
+        count: u32_at(t, 0),
+        size: u32_at(t, 4),
+        directory: u32_at(t, 8),
+        records: u32_at(t, 12),
+        base: u32_at(t, 16),
+    };
+    put_row(table::base_row(h))
+}
+
+fn put_numbers(h: Numbers) {
+    tell(
+        b"table",
+        [
+            h.count as u64,
+            h.size as u64,
+            h.directory as u64,
+            h.records as u64,
+            h.base as u64,
+            0,
+            0,
+            0,
+        ],
+        5,
+        b'\n',
+    )
+}
+
+fn put_tested(a: Tested) {
+    match a {
+        Tested::Sound(h) => put_numbers(h),
+        Tested::Refused(r) => tell_refused(r, b'\n'),
+    }
+}
+
+pub fn tell_check(t: &[u8]) {
+    put_tested(table::check(t))
+}
+
+pub fn tell_opening(s: &[u8], number: u64, t: &[u8]) {
+    put_tested(table::opening(s, RecordNumber(number), t))
+}
+
+pub fn tell_lookup<'a>(s: &'a [u8], number: u64, t: &'a [u8], wanted: u64, place: usize) {
+    let l = lookup::lookup(s, RecordNumber(number), t, RecordNumber(wanted), place);
     match l {
-        Looked::Found => put_text(out, 0, b"found"),
-        Looked::Refused(r) => put_refused(out, 0, r),
+        Looked::Found => say(b"found", b'\n'),
+        Looked::Refused(r) => tell_refused(r, b'\n'),
     }
 }
 
-pub fn put_view(out: &mut [u8], v: &[u8]) -> usize {
-    put_bytes(out, 0, b"view", v)
+pub fn tell_view<'a>(s: &'a [u8], number: u64, t: &'a [u8], wanted: u64, place: usize) {
+    let v = lookup::lookup_view(s, RecordNumber(number), t, RecordNumber(wanted), place);
+    tell_bytes(b"view", v)
 }

@@ -4,28 +4,16 @@ use Rattle.walk.proofs.main.Statement.{statement}
 use Rattle.walk.proofs.main.Tie as tie
 
 abbrev Inv-loop : tie.InvT-loop
-Inv-loop space₀ room₀ out₀ turns₀ space room out turns = Unit {0}
+Inv-loop space₀ turns₀ space turns = Unit {0}
 
 abbrev μ-loop : tie.MeasureT-loop
-μ-loop space₀ room₀ out₀ turns₀ space room out turns = turns
+μ-loop space₀ turns₀ space turns = turns
 
-large-buffer-requires : tie.Need-large-buffer-requires Inv-loop μ-loop
-large-buffer-requires c κs = search needs
+room-requires : tie.Need-room-requires Inv-loop μ-loop
+room-requires c κs = search needs
 
 slice-aggregate-space : tie.Need-slice-aggregate-space Inv-loop μ-loop
 slice-aggregate-space c = search needs
-
-large-buffer-requires-2 : tie.Need-large-buffer-requires-2 Inv-loop μ-loop
-large-buffer-requires-2 c κs = search needs
-
-slice-aggregate-room : tie.Need-slice-aggregate-room Inv-loop μ-loop
-slice-aggregate-room c = search needs
-
-large-buffer-requires-3 : tie.Need-large-buffer-requires-3 Inv-loop μ-loop
-large-buffer-requires-3 c κs = search needs
-
-slice-aggregate-out : tie.Need-slice-aggregate-out Inv-loop μ-loop
-slice-aggregate-out c = search needs
 
 loop-holds : tie.Need-loop-holds Inv-loop μ-loop
 loop-holds c = search needs
@@ -54,12 +42,8 @@ main-spec =
     (tie.spec
     Inv-loop
     μ-loop
-    large-buffer-requires
+    room-requires
     slice-aggregate-space
-    large-buffer-requires-2
-    slice-aggregate-room
-    large-buffer-requires-3
-    slice-aggregate-out
     loop-holds
     turn-requires
     sub-turns

@@ -1,14 +1,14 @@
--- The measure is the parts left.
+-- The measure is the parts left; nothing has to hold from turn to turn.
 use Prim.Native.Nat.{_-_}
 use borrow.Author.Needs.{needs}
-use Rattle.ask_parts.proofs.answer.blank_until.Statement.{statement}
-use Rattle.ask_parts.proofs.answer.blank_until.Tie as tie
+use Rattle.walk.proofs.collected.put_parts.Statement.{statement}
+use Rattle.walk.proofs.collected.put_parts.Tie as tie
 
 abbrev Inv-loop : tie.InvT-loop
-Inv-loop from parts i₀ i = Unit {0}
+Inv-loop count parts i₀ i = Unit {0}
 
 abbrev μ-loop : tie.MeasureT-loop
-μ-loop from parts i₀ i = 157 - i
+μ-loop count parts i₀ i = 157 - i
 
 loop-holds : tie.Need-loop-holds Inv-loop μ-loop
 loop-holds c = search needs
@@ -18,6 +18,9 @@ mul-p c = search needs
 
 array-copy-out-p : tie.Need-array-copy-out-p Inv-loop μ-loop
 array-copy-out-p c = search needs
+
+put-part-requires : tie.Need-put-part-requires Inv-loop μ-loop
+put-part-requires c κs = search needs
 
 is-blank-requires : tie.Need-is-blank-requires Inv-loop μ-loop
 is-blank-requires c κs = search needs
@@ -37,8 +40,8 @@ loop-again c = search needs
 returns-2 : tie.Need-returns-2 Inv-loop μ-loop
 returns-2 c = search needs
 
-pub blank-until-spec : {M : Type 1} → statement M
-blank-until-spec =
+pub put-parts-spec : {M : Type 1} → statement M
+put-parts-spec =
     tie.close
     (tie.spec
     Inv-loop
@@ -46,6 +49,7 @@ blank-until-spec =
     loop-holds
     mul-p
     array-copy-out-p
+    put-part-requires
     is-blank-requires
     returns
     add-i
