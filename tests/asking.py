@@ -55,7 +55,7 @@ ROOM = 131072
 
 def question(kind, number, record=b"", table=b"", place=0, wanted=0, rest=(0, 0, 0), key=(0, 0, 0), most=0):
     """A question packed: `rest` is a list by its flag, start and end, `key` a flag, a type and an instance, and `most` how many
-    turns, parts or refusals."""
+    calls or parts."""
     return HEAD.pack(kind, number, place, wanted, *rest, *key, most, len(record), len(table)) + record + table
 
 
@@ -122,8 +122,12 @@ class Asker:
     def expected(self, q):
         raise NotImplementedError
 
-    def goes_on(self, q, line):
-        """Whether the answer to a question has a further line behind this one."""
+    def counted(self, q, answer):
+        """The question as it is asked for this answer."""
+        return q
+
+    def goes_on(self, q, lines):
+        """Whether the answer to a question has a further line behind these."""
         return False
 
     def refused(self, q, refusal):
@@ -133,7 +137,7 @@ class Asker:
     # Asking.
 
     def ask(self, q, answer):
-        self.questions.append(q)
+        self.questions.append(self.counted(q, answer))
         self.expected_answers.append(answer)
         self.size += self.weight(q)
         if self.size >= self.BATCH:
@@ -187,15 +191,16 @@ class Asker:
         """The text cut into one answer for each question (some have several lines), and what is left of it."""
         at, cut = 0, []
         for q in questions:
-            start = at
+            start, lines = at, []
             while True:
                 end = end_of_line(text, at)
                 if end < 0:
                     cut.append(text[start:])
                     at = len(text)
                     break
-                line, at = text[at:end], end + 1
-                if not self.goes_on(q, line):
+                lines.append(text[at:end])
+                at = end + 1
+                if not self.goes_on(q, lines):
                     cut.append(text[start:end])
                     break
         return cut, text[at:]

@@ -34,6 +34,8 @@ REFUSALS = {1, 2, 3, 4, 5, 6, 7, 10, 11, 13, 14, 15, 16, 17, 18, 21, 22}
 
 
 class Question(NamedTuple):
+    """`turns` is how many calls a walk makes."""
+
     kind: int
     record: bytes
     table: bytes
@@ -62,6 +64,11 @@ def expected(q):
     return ["%s reads %d" % (walk_reading.said(answer), reads)]
 
 
+def counted(q, answer):
+    """The question as it is asked: the program makes as many calls as are expected, up to the one that every later call repeats."""
+    return q._replace(turns=len(answer)) if q.kind == WALK else q
+
+
 def state_in(line):
     """The state that a line of a call tells of."""
     words = line.split(" left ")[1].split(" ")
@@ -73,27 +80,12 @@ def ask(questions):
     return asking.run("walk", b"".join(map(packed, questions)))
 
 
-def ended(line, before):
-    """Whether a walk stops behind this line. Told from the lines alone, so that an answer with too few or too many of them
-    is found at its question."""
-    return line.startswith("end") or line.startswith("refused") and state_in(line) == before
-
-
 def cut(questions, text):
     """The text's lines, those of each question together, and the lines left over."""
     lines, at, found = text.split("\n"), 0, []
     assert lines.pop() == "" or text == "", "the last line is cut"
     for q in questions:
-        start = at
-        if q.kind != WALK:
-            at += 1
-        elif q.turns:
-            before = walk_reading.fresh(q.record)
-            while at < len(lines) and at - start < q.turns:
-                line, at = lines[at], at + 1
-                if " left " not in line or ended(line, before):
-                    break
-                before = state_in(line)
+        start, at = at, at + (q.turns if q.kind == WALK else 1)
         found.append(lines[start:at])
     return found, lines[at:]
 
@@ -136,7 +128,7 @@ class Asker:
         self.refusals = {}
 
     def ask(self, q, answer):
-        self.questions.append(q)
+        self.questions.append(counted(q, answer))
         self.answers.append(answer)
         self.size += asking.HEAD.size + len(q.record) + len(q.table)
         if self.size >= self.BATCH:
@@ -617,7 +609,8 @@ def replay(text):
     questions, wanted = [], []
     for on, table_, lines, first in cases:
         number, r = walk_cases.base_of(table_)
-        questions.append(Question(WALK, r, table_, number))
+        q = Question(WALK, r, table_, number)
+        questions.append(counted(q, expected(q)))
         wanted.append((on, lines))
         for ty, answer in first.items():
             questions.append(Question(FIRST, r, table_, number, ty=ty))
@@ -668,11 +661,12 @@ def sample():
     r = based(list_of(entry(0x80, 41, 2), entry(0x80, 40, 2), entry(0x11, 41), entry(0x80, 99, 1)))
     t = files(r)
     state = State(160, Rest(True, 104, 208), Key(True, 0x80, 2))
-    return [
+    questions = (
         *(Question(kind, r, t, state=state, ty=0x30) for kind in KINDS),
         Question(NEXT, r, t, state=State(LAST, Rest(True, 5, 4), Key(True, 2 ** 32 - 1, 65535))),
         Question(FIRST, r[:64], t), Question(WALK, r, t[:19]), Question(WALK, r, t, turns=2), Question(WALK, r, t, turns=0),
-    ]
+    )
+    return [counted(q, expected(q)) for q in questions]
 
 
 def sample_files():

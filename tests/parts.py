@@ -36,6 +36,8 @@ REFUSALS = (2, 3, 4, 5, 6, 7, 12, 14, 15, 16, 17, 18, 19, 20)
 
 
 class Question(NamedTuple):
+    """A walk goes on behind `on` refusals, and makes `calls` calls for that."""
+
     kind: int
     record: bytes
     table: bytes
@@ -43,6 +45,7 @@ class Question(NamedTuple):
     rest: Rest = NO_LIST
     room: int = ROOM
     on: int = 0
+    calls: int = 0
 
 
 def placed(ty, instance, lowest=0, length=64, runs=64, size=4000, inside=b""):
@@ -50,6 +53,11 @@ def placed(ty, instance, lowest=0, length=64, runs=64, size=4000, inside=b""):
     text = non_resident(ty, instance, length, lowest, runs)
     text = text[:48] + struct.pack("<Q", size)[:max(0, length - 48)] + text[56:]
     return (text[:runs] + inside + text[runs + len(inside):])[:len(text)] if runs >= 64 else text
+
+
+def calls_in(lines):
+    """How many calls of the walk these lines tell of. The parts of an item have a line of their own."""
+    return sum(not line.startswith("parts ") for line in lines)
 
 
 class Test(asking.Asker):
@@ -63,7 +71,7 @@ class Test(asking.Asker):
         self.lines = 0
 
     def packed(self, q):
-        most = q.on if q.kind == WALK else q.room
+        most = q.calls if q.kind == WALK else q.room
         return asking.question(BEFORE + q.kind, q.number, q.record, q.table, rest=q.rest, most=most)
 
     def shown(self, q):
@@ -74,8 +82,11 @@ class Test(asking.Asker):
             return parts_reading.said_walk(parts_reading.walk(q.record, q.number, q.table, q.on))
         return parts_reading.said(*parts_reading.parts_of(q.record, q.number, q.table, q.rest, q.room if q.kind == WITHIN else ROOM))
 
-    def goes_on(self, q, line):
-        return q.kind == WALK and line != "over"
+    def counted(self, q, answer):
+        return q._replace(calls=calls_in(answer.split("\n"))) if q.kind == WALK else q
+
+    def goes_on(self, q, lines):
+        return q.kind == WALK and (calls_in(lines) < q.calls or lines[-1].startswith("item "))
 
     def ask(self, q, answer):
         """Also counts how parts end: by what, in the first part or behind others."""
@@ -302,8 +313,10 @@ class Test(asking.Asker):
             t = table({40: bytes(r), **held})
             line = "parts %d whole reads %d" % (count, sum(reads[:count]))
             line += "".join(" part %d %d %d %d %d %d %d" % part for part in parts[:count]) + " unchanged 157"
-            item = "item 41 56 128 72 0 2 rest 1 32 %d reads 3\n" % (32 + 26 * count)
-            self.put_literal_question(item + line + "\nend reads %d\nover" % (count - 1), Question(WALK, bytes(r), t))
+            end = 32 + 26 * count
+            item = "item 41 56 128 72 0 2 rest 1 32 %d left 4088 1 58 %d 1 128 2 reads 3\n" % (end, end)
+            last = "\nend left 4088 0 0 0 1 128 2 reads %d" % (count - 1)
+            self.put_literal_question(item + line + last, Question(WALK, bytes(r), t))
             self.classes["%d parts in a walk" % count] += 1
 
         # the most reads: each entry searches a whole record of 16-byte attributes, and its part is the last of it
@@ -432,7 +445,7 @@ class Test(asking.Asker):
             # every record of the table is walked as if it were the base
             for number, r in walk_reading.table_of(text).rows.items():
                 self.put(WALK, r, text, number=number, on=9)
-                for answer, _, parts in parts_reading.walk(r, number, text, 9):
+                for answer, _, _, parts in parts_reading.walk(r, number, text, 9):
                     if isinstance(answer, walk_reading.Item) and answer.rest.there:
                         count = len(parts[0])
                         self.put_both(r, text, answer.rest, number, {0, 1, count - 1, count, count + 1, ROOM} - {-1, ROOM + 1})
@@ -574,7 +587,7 @@ def listing(answer, told):
             calls.append(["attr %s %s name %s value %s" % (" ".join(words[1:5]), words[6], name, value), *parts])
         elif words[0] == "refused":
             calls.append([refused_told(words[1:])])
-            if len(calls) == 1 and words[-1] == "0" and words[-5] in ("1", "2", "21"):
+            if len(calls) == 1 and words[-1] == "0" and words[1] in ("1", "2", "21"):
                 # refused before it began
                 break
         elif words[0] == "end":
@@ -596,7 +609,8 @@ def replay(text):
     questions = []
     for on, table_, _, _ in cases:
         number, r = walk_cases.base_of(table_)
-        questions.append(Question(WALK, r, table_, number, on=on))
+        q = Question(WALK, r, table_, number, on=on)
+        questions.append(test.counted(q, test.expected(q)))
     found, rest = test.answers_in(questions, asking.run(test.PROGRAM, b"".join(map(test.packed, questions))))
     assert not rest
     asked = [value_questions(q, answer) for q, answer in zip(questions, found)]
@@ -639,12 +653,13 @@ def sample(test):
     good = [e for e, _, _ in test.GOOD]
     r, t, rest = test.listed([*good, entry(0x80, 40, 2), entry(0x80, 41, 2)], {n: test.FILES[n] for n in (41, 42)})
     whole, u, span = test.listed([*good, entry(0x80, 49, 3)], {n: test.FILES[n] for n in (41, 42, 49)})
-    return [
+    questions = (
         Question(COLLECT, whole, u, rest=span), Question(COLLECT, r, t, rest=rest), Question(COLLECT, r, t, rest=Rest(False, 9, 3)),
         Question(COLLECT, r, t, rest=Rest(True, 9, 513)), Question(COLLECT, r[:64], t, rest=rest), Question(COLLECT, r, t[:19], rest=rest),
         Question(WALK, r, t), Question(WALK, whole, u, on=1), Question(WALK, whole, u, on=0), Question(WALK, r, t[:19], on=2),
         *(Question(WITHIN, whole, u, rest=span, room=room) for room in (0, 1, 2, 157)),
-    ]
+    )
+    return [test.counted(q, test.expected(q)) for q in questions]
 
 
 def cut_questions(test):

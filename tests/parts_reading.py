@@ -112,20 +112,20 @@ def parts_of(record, number, table, rest, room=ROOM):
 
 
 def walk(record, number, table, on):
-    """The walk from fresh on, through `on` refusals: (item, None for the end, or the refusal; the call's reads; for an item
-    what its parts call answers) of each call. At a refusal more, the walk stops."""
+    """The walk from fresh on, through `on` refusals: (item, None for the end, or the refusal; the state left; the call's reads;
+    for an item what its parts call answers) of each call. At a refusal more, the walk stops."""
     state = walk_reading.fresh(record)
     try:
         t = walk_reading.opened(record, number, table)
     except Refusal as refusal:
         # every later call refuses too
         for _ in range(on + 1):
-            yield refusal, 0, None
+            yield refusal, state, 0, None
         return
     while True:
         answer, state, reads = walk_reading.next_in(record, number, t.rows, state)
         given = isinstance(answer, walk_reading.Item)
-        yield answer, reads, parts_in(record, number, t.rows, answer.rest) if given else None
+        yield answer, state, reads, parts_in(record, number, t.rows, answer.rest) if given else None
         if answer is None or not given and on == 0:
             return
         on -= not given
@@ -145,10 +145,10 @@ def said(parts, answer, reads):
 
 
 def said_walk(calls):
-    """The lines of a walk, and one that says that it is over."""
+    """The lines of a walk: one for each call, and for an item that of its parts."""
     lines = []
-    for answer, reads, parts in calls:
-        lines.append("%s reads %d" % (walk_reading.said(answer), reads))
+    for *call, parts in calls:
+        lines.append(walk_reading.said_call(*call))
         if parts:
             lines.append(said(*parts))
-    return "\n".join((*lines, "over"))
+    return "\n".join(lines)

@@ -148,8 +148,8 @@ class Test(Asker):
     def expected(self, q):
         return expected(q)
 
-    def goes_on(self, q, line):
-        return q.kind == WALK and line.startswith("attribute")
+    def goes_on(self, q, lines):
+        return q.kind == WALK and lines[-1].startswith("attribute")
 
     def refused(self, q, refusal):
         """The reader's refusals are counted apart."""

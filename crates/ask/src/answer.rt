@@ -52,14 +52,6 @@ pub fn tell_opening(s: &[u8], number: u64, place: usize) {
     }
 }
 
-pub fn tell_known(ty: u32) {
-    tell_one(b"is", fields::known_type(ty) as u64, b'\n')
-}
-
-pub fn tell_flags(flags: u16) {
-    tell_one(b"flags", fields::attribute_flags(flags) as u64, b'\n')
-}
-
 fn put_attribute(h: Attribute) {
     tell(
         b"attribute",

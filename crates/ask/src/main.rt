@@ -4,6 +4,7 @@ mod answer;
 
 use words::Question;
 use words::part;
+use words::tell_one;
 
 // One call for each kind of question. A kind that there is not has no answer.
 fn tell_answer(s: &[u8], q: Question) {
@@ -13,8 +14,8 @@ fn tell_answer(s: &[u8], q: Question) {
     match kind {
         0 => answer::tell_header(s, number),
         1 => answer::tell_opening(s, number, place),
-        2 => answer::tell_known(q.ty),
-        3 => answer::tell_flags(q.instance),
+        2 => tell_one(b"is", fields::known_type(q.ty) as u64, b'\n'),
+        3 => tell_one(b"flags", fields::attribute_flags(q.instance) as u64, b'\n'),
         4 => answer::tell_step(s, number, place),
         5 => answer::tell_attribute(s, number, place),
         6 => answer::tell_search(s, number, place, q.ty, q.instance),

@@ -1,11 +1,8 @@
-// A call of the layers `parts` and `lent`, and a walk that asks for the parts of each item, and the answers as lines of words and decimal numbers.
-use crate::walked::put_step;
+// The calls of the layers `parts` and `lent`, and their answers as lines of words and decimal numbers.
 use fields::RecordNumber;
-use items::Walked;
 use part::Part;
 use parts::Collected;
 use parts::Ended;
-use turns::ItemStep;
 use turns::Rest;
 use words::Question;
 use words::say;
@@ -78,7 +75,11 @@ fn put_collected(c: Collected) {
     tell_one(b"unchanged", unchanged as u64, b'\n')
 }
 
-pub fn list_of(q: Question) -> Rest {
+pub fn tell_parts<'a>(base: &'a [u8], number: u64, t: &'a [u8], l: Rest) {
+    put_collected(parts::collect(base, RecordNumber(number), t, l))
+}
+
+fn list_of(q: Question) -> Rest {
     Rest {
         is: q.listed,
         from: q.from,
@@ -86,48 +87,12 @@ pub fn list_of(q: Question) -> Rest {
     }
 }
 
-pub fn tell_parts<'a>(base: &'a [u8], number: u64, t: &'a [u8], l: Rest) {
-    put_collected(parts::collect(base, RecordNumber(number), t, l))
+pub fn tell_listed<'a>(base: &'a [u8], t: &'a [u8], q: Question) {
+    tell_parts(base, q.number, t, list_of(q))
 }
 
-pub fn tell_within<'a>(base: &'a [u8], number: u64, t: &'a [u8], l: Rest, room: u16) {
-    let n = RecordNumber(number);
-    put_collected(lent::list_within(base, n, t, l, room as usize))
-}
-
-// How many refusals the walk may still meet behind this answer: none where it is over.
-fn less(n: Walked, on: u32) -> u32 {
-    let a = n.answer;
-    match a {
-        ItemStep::Given(_) => on,
-        ItemStep::End => 0,
-        ItemStep::Refused(_) => std::num::wrapping_sub_u32(on, 1),
-    }
-}
-
-// The lines of one call of the walk: its own, and for an item that of its parts.
-fn tell_call<'a>(base: &'a [u8], number: u64, t: &'a [u8], n: Walked) {
-    let a = n.answer;
-    put_step(a);
-    tell_one(b"reads", n.reads, b'\n');
-    match a {
-        ItemStep::Given(i) => tell_parts(base, number, t, i.rest),
-        _ => {}
-    }
-}
-
-// The walk from fresh on, with the parts of each item asked for once, through as many refusals as it is to go on behind, up to its end or one refusal more, and a line that says that it is over.
-// A walk has fewer items than its record has bytes, so the turns do not run out before it ends.
-pub fn tell_walk<'a>(base: &'a [u8], number: u64, t: &'a [u8], most: u16) {
-    let mut at = items::fresh(base);
-    let mut on = most as u32 + 1;
-    let mut turns: u32 = 131072;
-    while turns > 0 && on > 0 {
-        let n = items::next(base, RecordNumber(number), t, at);
-        tell_call(base, number, t, n);
-        on = less(n, on);
-        at = n.left;
-        turns -= 1;
-    }
-    say(b"over", b'\n')
+pub fn tell_within<'a>(base: &'a [u8], t: &'a [u8], q: Question) {
+    let number = RecordNumber(q.number);
+    let room = q.most as usize;
+    put_collected(lent::list_within(base, number, t, list_of(q), room))
 }

@@ -9,14 +9,16 @@ use words::part;
 // One call or one walk for each kind of question. A kind that there is not has no answer.
 fn tell_answer<'a>(base: &'a [u8], t: &'a [u8], q: Question) {
     let kind = q.kind;
+    let number = q.number;
+    let most = q.most;
     match kind {
         0 => walked::tell_fresh(base),
         1 => walked::tell_next(base, t, q),
-        2 => walked::tell_walk(base, q.number, t, q.most),
-        3 => walked::tell_first(base, q.number, t, q.ty),
-        4 => collected::tell_parts(base, q.number, t, collected::list_of(q)),
-        5 => collected::tell_within(base, q.number, t, collected::list_of(q), q.most),
-        6 => collected::tell_walk(base, q.number, t, q.most),
+        2 => walked::tell_walk(base, number, t, most, false),
+        3 => walked::tell_first(base, number, t, q.ty),
+        4 => collected::tell_listed(base, t, q),
+        5 => collected::tell_within(base, t, q),
+        6 => walked::tell_walk(base, number, t, most, true),
         _ => {}
     }
 }

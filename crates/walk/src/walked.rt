@@ -1,7 +1,7 @@
-// A call of the item walk, and its answer as a line of words and decimal numbers, for each kind of question.
+// The calls of the item walk, and their answers as lines of words and decimal numbers.
+use crate::collected::tell_parts;
 use fields::RecordNumber;
 use items::FirstItem;
-use items::Walked;
 use turns::Item;
 use turns::ItemStep;
 use turns::Key;
@@ -32,17 +32,12 @@ fn put_item(i: Item) {
         b' ',
     );
     let l = i.rest;
-    put_rest(l)
-}
-
-fn put_rest(l: Rest) {
     let from = l.from as u64;
     let to = l.to as u64;
     tell(b"rest", [l.is as u64, from, to, 0, 0, 0, 0, 0], 3, b' ')
 }
 
-// A call's answer, as the front of a line.
-pub fn put_step(a: ItemStep) {
+fn put_step(a: ItemStep) {
     match a {
         ItemStep::Given(i) => put_item(i),
         ItemStep::End => say(b"end", b' '),
@@ -76,15 +71,6 @@ pub fn tell_fresh(base: &[u8]) {
     put_state(items::fresh(base), b'\n')
 }
 
-// The line of one call of the walk.
-fn put_walked(n: Walked) {
-    let a = n.answer;
-    let left = n.left;
-    put_step(a);
-    put_state(left, b' ');
-    tell_one(b"reads", n.reads, b'\n')
-}
-
 fn state_of(q: Question) -> State {
     let list = Rest {
         is: q.listed,
@@ -103,45 +89,39 @@ fn state_of(q: Question) -> State {
     }
 }
 
-pub fn tell_next<'a>(base: &'a [u8], t: &'a [u8], q: Question) {
-    let w = state_of(q);
-    put_walked(items::next(base, RecordNumber(q.number), t, w))
-}
-
-fn same_list(a: Rest, b: Rest) -> bool {
-    (a.is == b.is) & (a.from == b.from) & (a.to == b.to)
-}
-
-fn same_key(a: Key, b: Key) -> bool {
-    (a.is == b.is) & (a.ty == b.ty) & (a.instance == b.instance)
-}
-
-fn same(a: State, b: State) -> bool {
-    (a.raw == b.raw) & same_list(a.list, b.list) & same_key(a.key, b.key)
-}
-
-// Whether every later call would answer as this one did: at the end, and at a refusal that left the state as it was.
-fn settled(n: Walked, given: State) -> bool {
+// One call of the walk as a line, and the state that it leaves. Where parts are asked for, those of an item follow as a line of their own.
+fn tell_call<'a>(base: &'a [u8], number: u64, t: &'a [u8], at: State, parts: bool) -> State {
+    let n = items::next(base, RecordNumber(number), t, at);
     let a = n.answer;
     let left = n.left;
+    put_step(a);
+    put_state(left, b' ');
+    tell_one(b"reads", n.reads, b'\n');
+    tell_given(base, number, t, a, parts);
+    left
+}
+
+pub fn tell_next<'a>(base: &'a [u8], t: &'a [u8], q: Question) {
+    tell_call(base, q.number, t, state_of(q), false);
+}
+
+// The parts of an item, where the answer is one and they are asked for.
+fn tell_given<'a>(base: &'a [u8], number: u64, t: &'a [u8], a: ItemStep, parts: bool) {
+    if !parts {
+        return;
+    }
     match a {
-        ItemStep::Given(_) => false,
-        ItemStep::End => true,
-        ItemStep::Refused(_) => same(given, left),
+        ItemStep::Given(i) => tell_parts(base, number, t, i.rest),
+        _ => {}
     }
 }
 
-// The walk from fresh on, through its refusals, a line a call, until it is settled or the turns are used up.
-pub fn tell_walk<'a>(base: &'a [u8], number: u64, t: &'a [u8], most: u16) {
+// So many calls from fresh on, each from the state that the one before left.
+pub fn tell_walk<'a>(base: &'a [u8], number: u64, t: &'a [u8], most: u16, parts: bool) {
     let mut at = items::fresh(base);
     let mut turns = most;
     while turns > 0 {
-        let n = items::next(base, RecordNumber(number), t, at);
-        put_walked(n);
-        if settled(n, at) {
-            return;
-        }
-        at = n.left;
+        at = tell_call(base, number, t, at, parts);
         turns -= 1;
     }
 }

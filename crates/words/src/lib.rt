@@ -13,7 +13,7 @@ ghost use Prim.Native.Nat.{_≤_};
 ghost use lib.ListN.{length};
 
 // A question, for every call that there is: each reads what it needs. `from` and `to` are those of a list, where `listed` says that there is one, and the type and instance
-// are also those of a key, where `keyed` says so. `most` is how many turns, parts or refusals. `whole` says that all of the question came: of its bytes the record is first.
+// are also those of a key, where `keyed` says so. `most` is how many calls a walk makes, or the room for parts. `whole` says that all of the question came: of its bytes the record is first.
 pub struct Question {
     pub whole: bool,
     pub kind: u8,
@@ -87,6 +87,7 @@ pub fn part(space: &[u8], from: usize, to: usize) -> &[u8] {
 }
 
 // Writes a word, so many of the numbers behind it, in decimal, and a last byte: a space where more of the line is to come. No answer has a longer word.
+// Whether it could be written is not asked: what is missing is missed by the test.
 pub fn tell(word: &[u8], numbers: [u64; 8], count: usize, last: u8) {
     if word.len() > 16 {
         return;

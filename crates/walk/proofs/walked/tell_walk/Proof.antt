@@ -4,10 +4,10 @@ use Rattle.walk.proofs.walked.tell_walk.Statement.{statement}
 use Rattle.walk.proofs.walked.tell_walk.Tie as tie
 
 abbrev Inv-loop : tie.InvT-loop
-Inv-loop base number t most at₀ turns₀ at turns = Unit {0}
+Inv-loop base number t most parts at₀ turns₀ at turns = Unit {0}
 
 abbrev μ-loop : tie.MeasureT-loop
-μ-loop base number t most at₀ turns₀ at turns = turns
+μ-loop base number t most parts at₀ turns₀ at turns = turns
 
 fresh-requires : tie.Need-fresh-requires Inv-loop μ-loop
 fresh-requires c κs = search needs
@@ -15,17 +15,8 @@ fresh-requires c κs = search needs
 loop-holds : tie.Need-loop-holds Inv-loop μ-loop
 loop-holds c = search needs
 
-next-requires : tie.Need-next-requires Inv-loop μ-loop
-next-requires c κs = search needs
-
-put-walked-requires : tie.Need-put-walked-requires Inv-loop μ-loop
-put-walked-requires c κs = search needs
-
-settled-requires : tie.Need-settled-requires Inv-loop μ-loop
-settled-requires c κs = search needs
-
-returns : tie.Need-returns Inv-loop μ-loop
-returns c = search needs
+tell-call-requires : tie.Need-tell-call-requires Inv-loop μ-loop
+tell-call-requires c κs = search needs
 
 sub-turns : tie.Need-sub-turns Inv-loop μ-loop
 sub-turns c = search needs
@@ -36,8 +27,8 @@ loop-less c = search needs
 loop-again : tie.Need-loop-again Inv-loop μ-loop
 loop-again c = search needs
 
-returns-2 : tie.Need-returns-2 Inv-loop μ-loop
-returns-2 c = search needs
+returns : tie.Need-returns Inv-loop μ-loop
+returns c = search needs
 
 pub tell-walk-spec : {M : Type 1} → statement M
 tell-walk-spec =
@@ -47,11 +38,8 @@ tell-walk-spec =
     μ-loop
     fresh-requires
     loop-holds
-    next-requires
-    put-walked-requires
-    settled-requires
-    returns
+    tell-call-requires
     sub-turns
     loop-less
     loop-again
-    returns-2)
+    returns)
