@@ -15,19 +15,24 @@ ghost use Rattle.table.specs.Check.{tableOf};
 ghost use Rattle.table.specs.Held.{recordAt, recordOf, toldRow, IsRow};
 ghost use Rattle.lookup.specs.Lookup.{placeBytes, filed, lookupIn, InTable, Stands};
 
-// The row with a number, one row after another.
+// The row with a number, by halves: the numbers rise from row to row, so one look leaves out the rows before or behind it.
 pub fn row_of(t: &[u8], h: Numbers, wanted: RecordNumber) -> RowFound
     requires { ⌜ tableOf (now t) ≡ gives h ⌝ }
     ensures { λ r. ⌜ IsRow (now (t .entry)) h wanted (toldRow r) ⌝ }
 {
-    let count = h.count as usize;
-    let mut i: usize = 0;
-    while i < count {
+    let mut from: usize = 0;
+    let mut to = h.count as usize;
+    while from < to {
+        let i = from + (to - from) / 2;
         let r = table::inner::row_at(t, h, i);
         if r.number.0 == wanted.0 {
             return RowFound::At(i);
         }
-        i += 1;
+        if r.number.0 < wanted.0 {
+            from = i + 1;
+        } else {
+            to = i;
+        }
     }
     RowFound::Missing
 }
