@@ -1,5 +1,7 @@
 // Asks the layers `fields`, `raw` and `reader`: reads questions from standard input (the crate `words` says how) and writes the answer to each on a line, for tests that compare the answers with a second reading of the rules.
 // For what a reader takes, the place is the number of the take. For the flags of an attribute, the instance has them.
+#![tactic(auto)]
+
 mod answer;
 
 use words::{Question, part, tell_one};

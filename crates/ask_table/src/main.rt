@@ -1,5 +1,7 @@
 // Asks the layers `list` and `table`, as the program `ask` does the layers under them: reads questions from standard input (the crate `words` says how) and writes the answer to each on a line.
 // The record of a question is, for the entry of a list, the rest of the list.
+#![tactic(auto)]
+
 mod answer;
 
 use words::{Question, part};

@@ -1,11 +1,13 @@
 // The listing for programs in C and in Rust to link: `rt staticlib cabi` writes the archive.
+#![tactic(auto)]
+
 ghost use Rattle.std.specs.Prelude.{◌≡◌, length};
 ghost use Rattle.lines.specs.Listing.{listingOf};
 ghost use Rattle.lines.specs.Pages.{page_of, Lists};
 
 // How many bytes of the buffer the listing fills, and whether there is more of it than there was room for.
 #[repr(C)]
-#[derive(Drop)]
+#[derive(Clone, Copy)]
 pub struct Filled {
     pub end: usize,
     pub more: bool,

@@ -4,6 +4,7 @@ use mathlib.Core.Path.{◌≡◌, refl, sym, ap, ◌∙◌, subst}
 use mathlib.Core.Bool.{Bool, true, false}
 use mathlib.Core.List.{List, [], ◌∷◌}
 use native.Mathlib.Omega.{arith}
+use Rattle.std.proofs.lemmas.Bool.Decides.{nat_tests}
 use lib.Dec.{T, eqb}
 use lib.ListN.{length, take, length-take}
 use borrow.Author.Tests.{eqb-true, eq-eqb, ltb-false}
@@ -54,17 +55,14 @@ pub record Sized (m : ℕ) : Type 0 where
   pub least : 64 ≤ m
   pub most : m ≤ 4096
 
-pub good-sized : (m : ℕ) → goodLength m ≡ true → Sized m
+pub good_sized : (m : ℕ) → goodLength m ≡ true → Sized m
 unfolding goodLength
-good-sized m e =
-    let a = not_first _ _ _ _ e not-true in
-    let b = not_first _ _ _ _ a.1 not-true in
-    record { least = omega (arith, ltb-false); most = omega (arith, ltb-false) }
+good_sized m e = record { least = grind (arith, nat_tests); most = grind (arith, nat_tests) }
 
-pub opened-sized : (s : List ℕ) (n : RecordNumber) {u : Unit} → openOf s n ≡ gives u → Sized (length s)
+pub opened_sized : (s : List ℕ) (n : RecordNumber) {u : Unit} → openOf s n ≡ gives u → Sized (length s)
 unfolding openOf
-opened-sized s n e = good-sized (length s) (not-second _ _ _ _ e refused-given).0
+opened_sized s n e = good_sized (length s) (not-second _ _ _ _ e refused-given).0
 
-pub opened-in-sized : (s : List ℕ) (n : RecordNumber) (size : ℕ) {u : Unit} → open_in s n size ≡ gives u → Sized (length s)
+pub opened_in_sized : (s : List ℕ) (n : RecordNumber) (size : ℕ) {u : Unit} → open_in s n size ≡ gives u → Sized (length s)
 unfolding open_in
-opened-in-sized s n size e = opened-sized s n (not-second _ _ _ _ e refused-given).1
+opened_in_sized s n size e = opened_sized s n (not-second _ _ _ _ e refused-given).1

@@ -14,7 +14,7 @@ refusal n r p = record { number = n; file = r; place = p }
 
 infixl 20 ◌⟫◌
 -- one step after another: what refuses or ends is the answer, else the next step decides
-unfoldable pub ◌⟫◌ : {A B : Type 0} → Answer A → (A → Answer B) → Answer B
+abbrev pub ◌⟫◌ : {A B : Type 0} → Answer A → (A → Answer B) → Answer B
 gives a ⟫ k = k a
 ends ⟫ k = ends
 refuses r ⟫ k = refuses r

@@ -11,6 +11,7 @@ fn wide16(x: u8) -> u16
     x as u16
 }
 
+#[tactic(auto, unfolding(crate::specs::Le::le))]
 pub fn u16_at(s: &[u8], at: usize) -> u16
     requires { at + 2 ≤ length s.now }
     ensures { result ≡ le 2 s.now at }
@@ -18,6 +19,7 @@ pub fn u16_at(s: &[u8], at: usize) -> u16
     wide16(s[at]) + 0x100 * wide16(s[at + 1])
 }
 
+#[tactic(auto, unfolding(crate::specs::Le::le))]
 pub fn u32_at(s: &[u8], at: usize) -> u32
     requires { at + 4 ≤ length s.now }
     ensures { result ≡ le 4 s.now at }
@@ -27,6 +29,7 @@ pub fn u32_at(s: &[u8], at: usize) -> u32
     low + 0x1_0000 * high
 }
 
+#[tactic(auto, unfolding(crate::specs::Le::le))]
 pub fn u48_at(s: &[u8], at: usize) -> u64
     requires { at + 6 ≤ length s.now }
     ensures { result ≡ le 6 s.now at }
@@ -36,6 +39,7 @@ pub fn u48_at(s: &[u8], at: usize) -> u64
     low + 0x1_0000_0000 * high
 }
 
+#[tactic(auto, unfolding(crate::specs::Le::le))]
 pub fn u64_at(s: &[u8], at: usize) -> u64
     requires { at + 8 ≤ length s.now }
     ensures { result ≡ le 8 s.now at }
@@ -45,6 +49,7 @@ pub fn u64_at(s: &[u8], at: usize) -> u64
     low + 0x1_0000_0000 * high
 }
 
+#[tactic(auto, unfolding(crate::specs::Header::recordFields))]
 pub fn record_fields(s: &[u8]) -> RecordHeader
     requires { 32 ≤ length s.now }
     ensures { result ≡ recordFields s.now }

@@ -1,4 +1,6 @@
 // The fields of a file record: numbers, named numbers, refusals, and the opening checks 1 and 2.
+#![tactic(auto)]
+
 pub mod inner;
 
 ghost use Rattle.std.specs.Prelude.{◌≡◌};
@@ -9,15 +11,15 @@ ghost use Rattle.fields.specs.Header.{toldHeader, headerOf, firstAttribute};
 use inner::{record_fields, u16_at};
 
 // Counts file records.
-#[derive(Drop)]
+#[derive(Clone, Copy)]
 pub struct RecordNumber(pub u64);
 
 // Counts clusters of one stream.
-#[derive(Drop)]
+#[derive(Clone, Copy)]
 pub struct Vcn(pub u64);
 
 // A refusal: its number in the table of document 01, the record that its place lies in, and the place.
-#[derive(Drop)]
+#[derive(Clone, Copy)]
 pub struct Refusal {
     pub number: u8,
     pub file: RecordNumber,
@@ -25,14 +27,14 @@ pub struct Refusal {
 }
 
 // The answer of an opening check.
-#[derive(Drop)]
+#[derive(Clone, Copy)]
 pub enum Opened {
     Passed,
     Refused(Refusal),
 }
 
 // The fields of a record's own header.
-#[derive(Drop)]
+#[derive(Clone, Copy)]
 pub struct RecordHeader {
     pub sequence: u16,
     pub links: u16,
@@ -43,13 +45,14 @@ pub struct RecordHeader {
 }
 
 // They, or what an opening check refused.
-#[derive(Drop)]
+#[derive(Clone, Copy)]
 pub enum HeaderRead {
     Fields(RecordHeader),
     Refused(Refusal),
 }
 
 // Whether a type is one of the known ones.
+#[tactic(auto, unfolding(crate::specs::Known::knownType))]
 pub fn known_type(ty: u32) -> bool
     ensures { result ≡ knownType ty }
 {
@@ -66,6 +69,7 @@ pub fn known_type(ty: u32) -> bool
 }
 
 // An attribute's flags, kept in the three bits that have a meaning.
+#[tactic(auto, unfolding(crate::specs::Known::attributeFlags))]
 pub fn attribute_flags(flags: u16) -> u16
     ensures { result ≡ attributeFlags flags }
 {
@@ -73,6 +77,7 @@ pub fn attribute_flags(flags: u16) -> u16
 }
 
 // Whether a record may have this length. A table's record size passes the same test.
+#[tactic(auto, unfolding(crate::specs::Open::goodLength))]
 pub fn good_length(m: usize) -> bool
     ensures { result ≡ goodLength m }
 {
@@ -86,6 +91,7 @@ pub fn good_length(m: usize) -> bool
 }
 
 // Whether the first four bytes are FILE.
+#[tactic(auto, unfolding(crate::specs::Open::isFile, crate::specs::Open::same))]
 pub fn is_file(s: &[u8]) -> bool
     ensures { result ≡ isFile s.now }
 {
@@ -96,6 +102,7 @@ pub fn is_file(s: &[u8]) -> bool
 }
 
 // Check 2, of the base record and of a looked-up one alike.
+#[tactic(auto, unfolding(crate::specs::Open::checkFile))]
 pub fn check_file(s: &[u8], number: RecordNumber) -> Opened
     ensures { toldOpened result ≡ checkFile s.now number }
 {
@@ -110,6 +117,7 @@ pub fn check_file(s: &[u8], number: RecordNumber) -> Opened
 }
 
 // Checks 1 and 2 of a record that comes with no table.
+#[tactic(auto, unfolding(crate::specs::Open::openOf))]
 pub fn opening(s: &[u8], number: RecordNumber) -> Opened
     ensures { toldOpened result ≡ openOf s.now number }
 {
@@ -124,6 +132,7 @@ pub fn opening(s: &[u8], number: RecordNumber) -> Opened
 }
 
 // Checks 1 and 2 of a record that comes with a table of this record size.
+#[tactic(auto, unfolding(crate::specs::Open::open_in))]
 pub fn opening_in(s: &[u8], number: RecordNumber, size: usize) -> Opened
     ensures { toldOpened result ≡ open_in s.now number size }
 {
@@ -138,6 +147,7 @@ pub fn opening_in(s: &[u8], number: RecordNumber, size: usize) -> Opened
 }
 
 // Where the raw walk starts; 0 where the bytes end before that field.
+#[tactic(auto, unfolding(crate::specs::Header::firstAttribute))]
 pub fn first_attribute(s: &[u8]) -> usize
     ensures { result ≡ firstAttribute s.now }
 {
@@ -148,6 +158,7 @@ pub fn first_attribute(s: &[u8]) -> usize
 }
 
 // The record's header fields, behind checks 1 and 2.
+#[tactic(auto, using(crate::proofs::Opens::opened_sized), unfolding(crate::specs::Header::headerOf))]
 pub fn header(s: &[u8], number: RecordNumber) -> HeaderRead
     ensures { toldHeader result ≡ headerOf s.now number }
 {

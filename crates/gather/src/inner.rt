@@ -21,7 +21,7 @@ use turns::{Item, Rest};
 use values::{Spanned, Valued};
 
 // The name and the value of an item.
-#[derive(Drop)]
+#[derive(Clone, Copy)]
 struct Contents {
     name: Spanned,
     value: Valued,

@@ -1,4 +1,6 @@
 // The item walk: the attributes of a file one by one, through its lists, and the first of a type.
+#![tactic(auto)]
+
 pub mod inner;
 
 ghost use Rattle.std.specs.Prelude.{◌≡◌};
@@ -14,7 +16,7 @@ use turns::inner::{no_key, no_list};
 use turns::{Item, ItemStep, Rest, State};
 
 // An answer of the walk, with the state left and what this call read.
-#[derive(Drop)]
+#[derive(Clone, Copy)]
 pub struct Walked {
     pub answer: ItemStep,
     pub left: State,
@@ -22,13 +24,13 @@ pub struct Walked {
 }
 
 // The first item of a type, or the refusal, and what was read for it.
-#[derive(Drop)]
+#[derive(Clone, Copy)]
 pub enum FirstItem {
     Given(Item),
     Refused(Refusal),
 }
 
-#[derive(Drop)]
+#[derive(Clone, Copy)]
 pub struct First {
     pub answer: FirstItem,
     pub reads: u64,

@@ -1,4 +1,6 @@
 // The parts of an item written to a lent list, from its front. What is written, and when it ends, comes from `first` and `next`; the loop only writes.
+#![tactic(auto)]
+
 ghost use Rattle.std.specs.Prelude.{◌≡◌, ◌+◌, ◌≤◌, min, length};
 ghost use Rattle.table.specs.Held.{recordOf};
 ghost use Rattle.turns.specs.State.{Ready, noKey};
@@ -12,7 +14,7 @@ use table::{Numbers, Tested};
 use turns::Rest;
 
 // What is reported: how many parts were written, how they end, and what was read.
-#[derive(Drop)]
+#[derive(Clone, Copy)]
 pub struct Filled {
     pub count: usize,
     pub answer: Ended,
@@ -21,7 +23,7 @@ pub struct Filled {
 
 // Where the filling stands: whether there is a part to write, and which; what is reported if it ends here;
 // where the step behind the part begins; and the table's numbers.
-#[derive(Drop)]
+#[derive(Clone, Copy)]
 pub struct Standing {
     pub go: bool,
     pub part: Part,
@@ -175,7 +177,7 @@ pub fn list<'a, 'b>(
 }
 
 // A list by value, and what is reported of it.
-#[derive(Drop)]
+#[derive(Clone, Copy)]
 pub struct Taken {
     pub parts: [Part; 157],
     pub told: Filled,

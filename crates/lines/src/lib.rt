@@ -1,4 +1,6 @@
 // The listing of a table as a value: its lines, one a call or as many as a buffer holds.
+#![tactic(auto)]
+
 pub mod inner;
 
 ghost use Rattle.std.specs.Prelude.{◌≡◌, length};
@@ -10,7 +12,7 @@ use table::Numbers;
 use turns::State;
 
 // Where a listing stands: before its first line, among its items, before the line that says by which number it is refused, or behind its last line.
-#[derive(Drop)]
+#[derive(Clone, Copy)]
 pub enum Stage {
     Start,
     Items,
@@ -20,7 +22,7 @@ pub enum Stage {
 
 // A listing that is being made. Among its items: the table's numbers, the walk, what was read so far, and how many of the last item's
 // parts have their lines already, of how many. Elsewhere these mean nothing but for the reads.
-#[derive(Drop)]
+#[derive(Clone, Copy)]
 pub struct Making {
     pub stage: Stage,
     pub h: Numbers,
@@ -31,7 +33,7 @@ pub struct Making {
 }
 
 // What a call told: where the text now ends, and the listing from there on. `more` says of one line that there was one, of a page that more is to come.
-#[derive(Drop)]
+#[derive(Clone, Copy)]
 pub struct Told {
     pub next: Making,
     pub end: usize,
@@ -66,7 +68,7 @@ pub fn start() -> Making
 }
 
 // How far the listing went: how many bytes of the buffer it fills, and whether there is more of it.
-#[derive(Drop)]
+#[derive(Clone, Copy)]
 pub struct Listed {
     pub end: usize,
     pub more: bool,

@@ -1,4 +1,6 @@
 // One entry of an attribute list. Each call is handed the part of the record that begins at the next entry, and answers for that part alone.
+#![tactic(auto)]
+
 ghost use Rattle.std.specs.Prelude.{◌≡◌, ◌+◌, ◌≤◌, length};
 ghost use Rattle.fields.specs.Answer.{refuses, refusal};
 ghost use Rattle.list.specs.Entry.{toldEntry, entry_at, entry_of};
@@ -9,7 +11,7 @@ use fields::{RecordNumber, Refusal, Vcn};
 
 // The fields of a list entry: `length` is the whole entry's in bytes, `units` the name's in units of two bytes.
 // `file` is the record that holds the attribute, the reference without its sequence number.
-#[derive(Drop)]
+#[derive(Clone, Copy)]
 pub struct Entry {
     pub ty: u32,
     pub length: usize,
@@ -20,7 +22,7 @@ pub struct Entry {
 }
 
 // An answer of the list step.
-#[derive(Drop)]
+#[derive(Clone, Copy)]
 pub enum EntryStep {
     Given(Entry),
     End,
@@ -28,7 +30,7 @@ pub enum EntryStep {
 }
 
 // The same answer with the entry's name, zero past its end. It stands beside the answer, since an enum must not hold an array.
-#[derive(Drop)]
+#[derive(Clone, Copy)]
 pub struct Listed {
     pub answer: EntryStep,
     pub name: [u8; 510],
@@ -89,7 +91,7 @@ fn name_of(rest: &[u8], n: usize) -> [u8; 510]
     ensures { result ≡ nameOf rest.now n }
 {
     let mut name = [0u8; 510];
-    bytes::copy(&rest[26..26 + n], &mut name);
+    name[0..n].copy_from_slice(&rest[26..26 + n]);
     name
 }
 

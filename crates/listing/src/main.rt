@@ -1,5 +1,7 @@
 // Lists a table: reads it from standard input, at most 65,536 bytes, and writes its listing to standard output.
 // One byte more than a table may have is read, so that a longer input is seen to be one.
+#![tactic(auto)]
+
 ghost use Rattle.std.specs.Prelude.{◌≡◌, ◌≤◌, length};
 
 use libc::{STDERR_FILENO, STDIN_FILENO, STDOUT_FILENO};
@@ -12,7 +14,7 @@ fn table_room() -> [u8; 65537]
 }
 
 // How many bytes stand in front of the buffer, and whether every read went well.
-#[derive(Drop)]
+#[derive(Clone, Copy)]
 struct Input {
     bytes: usize,
     whole: bool,

@@ -1,4 +1,6 @@
 // The lookup of a record: in the lent base record, or among the rows of the lent table.
+#![tactic(auto)]
+
 pub mod inner;
 
 ghost use Rattle.std.specs.Prelude.{◌≡◌};
@@ -8,21 +10,21 @@ use fields::{RecordNumber, Refusal};
 use table::{Tested, opening};
 
 // Where a record stands: it is the lent base record, or a row's.
-#[derive(Drop)]
+#[derive(Clone, Copy)]
 pub enum Place {
     Base,
     Row(usize),
 }
 
 // Where a looked-up record stands, or the refusal.
-#[derive(Drop)]
+#[derive(Clone, Copy)]
 pub enum Placed {
     At(Place),
     Refused(Refusal),
 }
 
 // Whether a looked-up record was found. An enum can't hold a slice: `lookup_view` hands the record out.
-#[derive(Drop)]
+#[derive(Clone, Copy)]
 pub enum Looked {
     Found,
     Refused(Refusal),

@@ -1,4 +1,6 @@
 // One part of a stream: whether an entry goes on with it, and the part that the entry leads to.
+#![tactic(auto)]
+
 pub mod inner;
 
 use fields::{RecordNumber, Refusal, Vcn};
@@ -6,7 +8,7 @@ use values::Span;
 
 // A part: the record that holds it, its attribute's offset there, its own lowest VCN, where its run bytes stand in that record,
 // the data size, and the lowest VCN that its list entry tells.
-#[derive(Drop)]
+#[derive(Clone, Copy)]
 pub struct Part {
     pub file: RecordNumber,
     pub offset: usize,
@@ -17,21 +19,21 @@ pub struct Part {
 }
 
 // A part, or the refusal.
-#[derive(Drop)]
+#[derive(Clone, Copy)]
 pub enum PartRead {
     Given(Part),
     Refused(Refusal),
 }
 
 // It, with what was read for it.
-#[derive(Drop)]
+#[derive(Clone, Copy)]
 pub struct PartFound {
     pub answer: PartRead,
     pub reads: u64,
 }
 
 // Whether an entry goes on with the stream: it does, the parts end, or 6.
-#[derive(Drop)]
+#[derive(Clone, Copy)]
 pub enum Joined {
     On,
     End,

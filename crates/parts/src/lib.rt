@@ -1,4 +1,6 @@
 // The parts of an item: the attributes of one stream, in the order of the list's entries.
+#![tactic(auto)]
+
 pub mod inner;
 
 ghost use Rattle.parts.specs.Parts.{listing, toldEnded, parts_of, blankParts, Collects};
@@ -10,28 +12,28 @@ use table::Tested;
 use turns::{Key, Rest};
 
 // How a list of parts ends: whole, or by a refusal.
-#[derive(Drop)]
+#[derive(Clone, Copy)]
 pub enum Ended {
     Whole,
     Refused(Refusal),
 }
 
 // Where the parts stand: the rest of the list, and the key that its first entry told, if it was read.
-#[derive(Drop)]
+#[derive(Clone, Copy)]
 pub struct Cursor {
     pub list: Rest,
     pub key: Key,
 }
 
 // What one step of the parts says.
-#[derive(Drop)]
+#[derive(Clone, Copy)]
 pub enum PartKind {
     Lists(Part),
     Stops(Ended),
 }
 
 // It, with where the next step begins and what was read.
-#[derive(Drop)]
+#[derive(Clone, Copy)]
 pub struct PartTurn {
     pub kind: PartKind,
     pub next: Cursor,
@@ -40,7 +42,7 @@ pub struct PartTurn {
 
 // Up to 157 parts by value, as many as a list of 4,096 bytes can have entries: how many there are, how they end, and what was read.
 // The rest of the array is blank.
-#[derive(Drop)]
+#[derive(Clone, Copy)]
 pub struct Collected {
     pub parts: [Part; 157],
     pub count: usize,

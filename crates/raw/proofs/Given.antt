@@ -10,7 +10,7 @@ use Rattle.fields.specs.Open.{openOf}
 use Rattle.fields.specs.declared.RecordNumber.{RecordNumber}
 use Rattle.fields.proofs.Cases.{not_first}
 use Rattle.fields.proofs.Answers.{refused-given, ended-given, the-given, back}
-use Rattle.fields.proofs.Opens.{opened-sized}
+use Rattle.fields.proofs.Opens.{opened_sized}
 use Rattle.raw.specs.Attribute.{attributeAt, checkedAt, attributeOf, Inside}
 use Rattle.raw.specs.Step.{stepAt, step_of}
 use Rattle.raw.specs.declared.Attribute.{Attribute}
@@ -56,11 +56,11 @@ module _ (s : List ℕ) (n : RecordNumber) (at : ℕ) (h : Attribute) (e : step_
 
   pub step-inside : Inside s h
   unfolding step_of
-  step-inside = inside step_given (opened-sized s n (back (openOf s n) (λ _. stepAt s n at) h e).gave).most
+  step-inside = inside step_given (opened_sized s n (back (openOf s n) (λ _. stepAt s n at) h e).gave).most
 
 -- by a public call, behind checks 1 and 2
 pub of-attribute : (s : List ℕ) (n : RecordNumber) (at : ℕ) (h : Attribute) → attributeOf s n at ≡ gives h → Inside s h
 unfolding attributeOf
 of-attribute s n at h e =
     let t = back (openOf s n) (λ _. checkedAt s n at) h e in
-    inside (of-checked s n at h t.next) (opened-sized s n t.gave).most
+    inside (of-checked s n at h t.next) (opened_sized s n t.gave).most

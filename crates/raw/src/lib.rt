@@ -1,4 +1,6 @@
 // One attribute of a record, and the raw walk.
+#![tactic(auto)]
+
 pub mod inner;
 
 ghost use Rattle.std.specs.Prelude.{◌≡◌};
@@ -9,7 +11,7 @@ use fields::{Opened, RecordNumber, Refusal, opening};
 
 // Where an attribute stands, and the fields of its first sixteen bytes.
 // `units` is the name's length in units of two bytes, `name` the name's offset from the attribute's start.
-#[derive(Drop)]
+#[derive(Clone, Copy)]
 pub struct Attribute {
     pub offset: usize,
     pub ty: u32,
@@ -22,14 +24,14 @@ pub struct Attribute {
 }
 
 // An attribute that passed checks 3 to 5, or the refusal.
-#[derive(Drop)]
+#[derive(Clone, Copy)]
 pub enum Checked {
     Given(Attribute),
     Refused(Refusal),
 }
 
 // An answer of the raw walk.
-#[derive(Drop)]
+#[derive(Clone, Copy)]
 pub enum RawStep {
     Given(Attribute),
     End,
@@ -37,7 +39,7 @@ pub enum RawStep {
 }
 
 // What a search of a record answered, and the attributes it read.
-#[derive(Drop)]
+#[derive(Clone, Copy)]
 pub struct Found {
     pub answer: Checked,
     pub reads: u64,

@@ -1,4 +1,6 @@
 // A record reader: it keeps the lent record and its place in the raw walk. What it answers is the raw walk's own.
+#![tactic(auto)]
+
 ghost use Rattle.raw.specs.Step.{toldStep};
 ghost use Rattle.std.specs.Prelude.{◌≡◌};
 ghost use Rattle.reader.specs.Take.{Moves, Starts, Takes};
@@ -8,7 +10,7 @@ use fields::RecordNumber;
 use raw::RawStep;
 
 // The lent record and its number, and the place of the next step.
-#[derive(Drop)]
+#[derive(Clone, Copy)]
 pub struct Reader<'a> {
     pub bytes: &'a [u8],
     pub number: RecordNumber,
@@ -16,7 +18,7 @@ pub struct Reader<'a> {
 }
 
 // What a step of the raw walk answered, and the place after it.
-#[derive(Drop)]
+#[derive(Clone, Copy)]
 pub struct Moved {
     pub answer: RawStep,
     pub at: usize,

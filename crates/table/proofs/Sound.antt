@@ -13,7 +13,7 @@ use Rattle.fields.specs.Open.{goodLength, openOf, open_in}
 use Rattle.fields.specs.declared.RecordNumber.{RecordNumber}
 use Rattle.fields.proofs.Cases.{not_first, not-second}
 use Rattle.fields.proofs.Answers.{refused-given, the-given, back}
-use Rattle.fields.proofs.Opens.{not-true, Sized, good-sized}
+use Rattle.fields.proofs.Opens.{not-true, Sized, good_sized}
 use Rattle.table.specs.Layout.{numbersAt, width, row_in, rowAt}
 use Rattle.table.specs.Check.{goodNumbers, head_of, leastAt, goodRow, rowsChecked, rows_of, table_of, openTable}
 use Rattle.table.specs.Held.{recordAt}
@@ -108,7 +108,7 @@ sound t h e =
     let all = subst (λ (x : Numbers). (i : ℕ) → i < x.count → GoodAt t x i) q (all-good t a.first a.first.count b.gave) in
     record {
       head = d;
-      sized = good-sized h.size d.good;
+      sized = good_sized h.size d.good;
       small = λ i l. (fits t h all i l).small;
       rises = rising t h all;
       starts = λ i l. (fits t h all i l).starts;

@@ -1,4 +1,6 @@
 // The lent table: check 21, and the opening checks of every call that is lent one.
+#![tactic(auto)]
+
 pub mod inner;
 
 ghost use Rattle.std.specs.Prelude.{◌≡◌, ◌≤◌, length};
@@ -11,7 +13,7 @@ use fields::inner::u32_at;
 use fields::{Opened, RecordNumber, Refusal, good_length, opening_in};
 
 // The five numbers of a table's header. `size` is the record size; offsets are counted from the table's start.
-#[derive(Drop)]
+#[derive(Clone, Copy)]
 pub struct Numbers {
     pub count: u32,
     pub size: u32,
@@ -21,7 +23,7 @@ pub struct Numbers {
 }
 
 // A row of the directory: where it stands in the table, its record's number, and where that record stands.
-#[derive(Drop)]
+#[derive(Clone, Copy)]
 pub struct Row {
     pub place: usize,
     pub number: RecordNumber,
@@ -29,14 +31,14 @@ pub struct Row {
 }
 
 // A well-formed table's numbers, or the refusal.
-#[derive(Drop)]
+#[derive(Clone, Copy)]
 pub enum Tested {
     Sound(Numbers),
     Refused(Refusal),
 }
 
 // A row, by its index, or none.
-#[derive(Drop)]
+#[derive(Clone, Copy)]
 pub enum RowFound {
     At(usize),
     Missing,

@@ -1,4 +1,6 @@
 // The item walk, one small step at a time: its state, its items, and its two kinds of turn.
+#![tactic(auto)]
+
 pub mod inner;
 
 use fields::{RecordNumber, Refusal};
@@ -6,7 +8,7 @@ use raw::Attribute;
 
 // The rest of a list, from its next entry on: whether there is one, where it begins and where it ends in the base record.
 // Where there is none, the two places mean nothing.
-#[derive(Drop)]
+#[derive(Clone, Copy)]
 pub struct Rest {
     pub is: bool,
     pub from: usize,
@@ -14,7 +16,7 @@ pub struct Rest {
 }
 
 // What the walk passes over: entries of this type and instance, where there is a key. Where there is none, the two mean nothing.
-#[derive(Drop)]
+#[derive(Clone, Copy)]
 pub struct Key {
     pub is: bool,
     pub ty: u32,
@@ -22,7 +24,7 @@ pub struct Key {
 }
 
 // Where a walk stands: the place of the next raw attribute, the open list, and the skip key.
-#[derive(Drop)]
+#[derive(Clone, Copy)]
 pub struct State {
     pub raw: usize,
     pub list: Rest,
@@ -30,7 +32,7 @@ pub struct State {
 }
 
 // An item: the record that holds the attribute, the attribute, and for a non-resident one found by an entry the list from that entry on.
-#[derive(Drop)]
+#[derive(Clone, Copy)]
 pub struct Item {
     pub file: RecordNumber,
     pub attribute: Attribute,
@@ -38,7 +40,7 @@ pub struct Item {
 }
 
 // An answer of the walk.
-#[derive(Drop)]
+#[derive(Clone, Copy)]
 pub enum ItemStep {
     Given(Item),
     End,
@@ -46,14 +48,14 @@ pub enum ItemStep {
 }
 
 // What one turn of the walk says: go on, or answer.
-#[derive(Drop)]
+#[derive(Clone, Copy)]
 pub enum Kind {
     Pass,
     Stop(ItemStep),
 }
 
 // It, with the state left and what the turn read.
-#[derive(Drop)]
+#[derive(Clone, Copy)]
 pub struct Turn {
     pub kind: Kind,
     pub left: State,

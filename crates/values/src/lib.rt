@@ -1,4 +1,6 @@
 // The name, the full header and the value of one attribute.
+#![tactic(auto)]
+
 pub mod inner;
 
 ghost use Rattle.std.specs.Prelude.{◌≡◌};
@@ -10,28 +12,28 @@ use fields::{RecordNumber, Refusal, Vcn};
 use raw::{Checked, attribute_at};
 
 // Some bytes of a record: where they start, counted from the record's start, and how many they are.
-#[derive(Drop)]
+#[derive(Clone, Copy)]
 pub struct Span {
     pub from: usize,
     pub bytes: usize,
 }
 
 // Where a name, a resident value or a list stands, or the refusal.
-#[derive(Drop)]
+#[derive(Clone, Copy)]
 pub enum Spanned {
     At(Span),
     Refused(Refusal),
 }
 
 // What a resident attribute adds to its first sixteen bytes: its value's length, and its offset from the attribute's start.
-#[derive(Drop)]
+#[derive(Clone, Copy)]
 pub struct ResidentHeader {
     pub bytes: u32,
     pub value: u16,
 }
 
 // What a non-resident attribute adds: `runs` is the run bytes' offset from the attribute's start, `size` the data size.
-#[derive(Drop)]
+#[derive(Clone, Copy)]
 pub struct NonResidentHeader {
     pub lowest: Vcn,
     pub highest: Vcn,
@@ -42,7 +44,7 @@ pub struct NonResidentHeader {
 }
 
 // An attribute's full header, or the refusal.
-#[derive(Drop)]
+#[derive(Clone, Copy)]
 pub enum FullHeader {
     Resident(ResidentHeader),
     NonResident(NonResidentHeader),
@@ -50,7 +52,7 @@ pub enum FullHeader {
 }
 
 // Where a resident value stands; or where run bytes stand, with the data size; or the refusal.
-#[derive(Drop)]
+#[derive(Clone, Copy)]
 pub enum Valued {
     Resident(Span),
     Runs(Span, u64),

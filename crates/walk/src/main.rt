@@ -1,5 +1,7 @@
 // Asks the item walk and the parts of its items: reads questions from standard input (the crate `words` says how) and writes the answers, a line a call, for tests that compare them with a second reading of the rules.
 // The place of a question is the raw place of its state.
+#![tactic(auto)]
+
 mod collected;
 mod walked;
 

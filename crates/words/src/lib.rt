@@ -1,6 +1,8 @@
 // What the programs that the tests ask share: how a question is read from standard input, and how an answer is written to standard output, a piece of a line at a time.
 // A question is a head of 59 bytes, all numbers little-endian, as `read_head` has them, then as many bytes of a record (or of the rest of a list) and of a table as the head says.
 // A program ends where the questions end, and at a question that is cut or whose bytes have no room.
+#![tactic(auto)]
+
 ghost use Rattle.std.specs.Prelude.{◌≤◌, length};
 
 use fields::Refusal;
@@ -10,7 +12,7 @@ use text::inner::{put_byte, put_words};
 
 // A question, for every call that there is: each reads what it needs. `from` and `to` are those of a list, where `listed` says that there is one, and the type and instance
 // are also those of a key, where `keyed` says so. `most` is how many calls a walk makes, or the room for parts. `whole` says that all of the question came: of its bytes the record is first.
-#[derive(Drop)]
+#[derive(Clone, Copy)]
 pub struct Question {
     pub whole: bool,
     pub kind: u8,
