@@ -8,13 +8,13 @@ use Rattle.fields.specs.declared.RecordNumber.{RecordNumber}
 use Rattle.fields.proofs.Cases.{both}
 use Rattle.list.specs.Entry.{entry_of}
 use Rattle.list.specs.declared.Entry.{Entry}
-use Rattle.turns.specs.State.{noKey, part_of as listPart}
+use Rattle.turns.specs.State.{no_key, part_of as listPart}
 use Rattle.turns.specs.declared.Rest.{Rest}
 use Rattle.part.specs.Part.{part_of}
-use Rattle.parts.specs.Parts.{Stepped, lists, stops, cursor, stepAfter, stepPart, stepJoined, stepKeyed, stepEntered, stepIn, Listing, partsAfter, partsRun, partsFrom, parts_in}
+use Rattle.parts.specs.Parts.{Stepped, lists, stops, cursor, step_after, step_part, step_joined, step_keyed, step_entered, step_in, Listing, parts_after, parts_run, parts_from, parts_in}
 use Rattle.part.specs.declared.Part.{Part}
 use Rattle.parts.specs.declared.Cursor.{Cursor}
-use Rattle.bound.specs.Run.{Spot, gaveAfter, gaveRun, gaveFrom, gaveIn, items_of}
+use Rattle.bound.specs.Run.{Spot, gave_after, gave_run, gave_from, gave_in, items_of}
 use Rattle.bound.proofs.Facts.{Sized, both_by}
 use Rattle.bound.proofs.Rising.{Before, before-trans, behind, not_behind, Rising, rising-before, first, last, split}
 use Rattle.bound.proofs.Bound.{flat, all-rise}
@@ -70,40 +70,40 @@ module _ (s : List ℕ) (n : RecordNumber) (look : RecordNumber → Option (List
   Led l (stops a k) = Unit {0}
 
   after-led : (l : Rest) (e : Entry) → entry_of (listPart s l) n l.from ≡ gives e → (next : Cursor) (a : Answer Part) (k : ℕ) → (part_of s n look e l.from).answer ≡ a
-      → Led l (stepAfter next a k)
-  unfolding stepAfter
+      → Led l (step_after next a k)
+  unfolding step_after
   after-led l e q next (gives p) k g = record { entry = e; stands = q; leads = g }
   after-led l e q next ends k g = tt
   after-led l e q next (refuses r) k g = tt
 
-  joined-led : (l : Rest) (e : Entry) → entry_of (listPart s l) n l.from ≡ gives e → (k : ℕ) (next : Cursor) (j : Answer Unit) → Led l (stepJoined s n look room k next e l.from j)
-  unfolding stepJoined stepPart
+  joined-led : (l : Rest) (e : Entry) → entry_of (listPart s l) n l.from ≡ gives e → (k : ℕ) (next : Cursor) (j : Answer Unit) → Led l (step_joined s n look room k next e l.from j)
+  unfolding step_joined step_part
   joined-led l e q k next (gives u) = both (Led l) _ _ _ (after-led l e q next _ _ refl) tt
   joined-led l e q k next ends = tt
   joined-led l e q k next (refuses r) = tt
 
-  entered-led : (k : ℕ) (c : Cursor) (a : Answer Entry) → entry_of (listPart s c.list) n c.list.from ≡ a → Led c.list (stepEntered s n look room k c (listPart s c.list) a)
-  unfolding stepEntered stepKeyed
+  entered-led : (k : ℕ) (c : Cursor) (a : Answer Entry) → entry_of (listPart s c.list) n c.list.from ≡ a → Led c.list (step_entered s n look room k c (listPart s c.list) a)
+  unfolding step_entered step_keyed
   entered-led k c (gives e) q = joined-led c.list e q k _ _
   entered-led k c ends q = tt
   entered-led k c (refuses r) q = tt
 
-  step-led : (k : ℕ) (c : Cursor) → Led c.list (stepIn s n look room k c)
-  unfolding stepIn
+  step-led : (k : ℕ) (c : Cursor) → Led c.list (step_in s n look room k c)
+  unfolding step_in
   step-led k c = entered-led k c _ refl
 
   each_after : (l : Rest) (x : Stepped) → Led l x → (on : Cursor → Listing) (gave : Cursor → List Rest) → ((d : Cursor) → Each (gave d) (on d).parts)
-      → Each (gaveAfter s n look room gave l x) (partsAfter on x).parts
-  unfolding gaveAfter partsAfter
+      → Each (gave_after s n look room gave l x) (parts_after on x).parts
+  unfolding gave_after parts_after
   each_after l (lists p d k) h on gave ih = (h, ih d)
   each_after l (stops a k) h on gave ih = tt
 
-  each-run : (f k : ℕ) (c : Cursor) → Each (gaveRun s n look room f k c) (partsRun s n look room f k c).parts
-  unfolding gaveRun partsRun
+  each-run : (f k : ℕ) (c : Cursor) → Each (gave_run s n look room f k c) (parts_run s n look room f k c).parts
+  unfolding gave_run parts_run
   each-run zero k c = tt
-  each-run (suc f) k c = each_after c.list (stepIn s n look room k c) (step-led k c) (partsRun s n look room f (k + 1)) (gaveRun s n look room f (k + 1)) (each-run f (k + 1))
+  each-run (suc f) k c = each_after c.list (step_in s n look room k c) (step-led k c) (parts_run s n look room f (k + 1)) (gave_run s n look room f (k + 1)) (each-run f (k + 1))
 
   -- an item's entries lead to its parts, one to each
-  pub each_part : (l : Rest) → Each (gaveIn s n look room l) (parts_in s n look room l).parts
-  unfolding gaveIn gaveFrom parts_in partsFrom
-  each_part l = both_by (λ (x : List Rest) (y : Listing). Each x y.parts) l.is _ _ _ _ (each-run _ 0 (cursor l noKey)) tt
+  pub each_part : (l : Rest) → Each (gave_in s n look room l) (parts_in s n look room l).parts
+  unfolding gave_in gave_from parts_in parts_from
+  each_part l = both_by (λ (x : List Rest) (y : Listing). Each x y.parts) l.is _ _ _ _ (each-run _ 0 (cursor l no_key)) tt

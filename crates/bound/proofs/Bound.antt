@@ -13,12 +13,12 @@ use Rattle.fields.specs.declared.RecordNumber.{RecordNumber}
 use Rattle.fields.proofs.Walks.{walked, stop-go, go-stop, the-stop, the-go}
 use Rattle.items.specs.Start.{fresh_of}
 use Rattle.turns.specs.Turn.{Small, passes, answers}
-use Rattle.items.specs.Items.{smallStep, Left, Going, going, never, measure, turnAfter, turn, nextIn}
+use Rattle.items.specs.Items.{small_step, Left, Going, going, never, measure, turn_after, turn, next_in}
 use Rattle.turns.specs.declared.State.{State}
 use Rattle.turns.specs.declared.Item.{Item}
 use Rattle.items.proofs.Kept.{falls}
 use Rattle.parts.specs.Parts.{parts_in}
-use Rattle.bound.specs.Run.{Spot, spot, countAfter, countNext, countRun, countFrom, count_of, spotsOf, itemsAfter, itemsNext, itemsRun, items_of}
+use Rattle.bound.specs.Run.{Spot, spot, count_after, count_next, count_run, count_from, count_of, spots_of, items_after, items_next, items_run, items_of}
 use Rattle.bound.proofs.Value.{most, val-fresh}
 use Rattle.bound.proofs.Facts.{Sized}
 use Rattle.bound.proofs.Rising.{here, Rising, rising-lo, rising-append}
@@ -36,7 +36,7 @@ module _ (s : List ℕ) (n : RecordNumber) (look : RecordNumber → Option (List
     Come h = Goes s n w g h.at h.reads []
 
     abbrev Answered : Answer Item → State → ℕ → Type 0
-    Answered (gives i) v c = Goes s n w g v (c + (parts_in s n look room i.rest).reads) (spotsOf s n look room v i)
+    Answered (gives i) v c = Goes s n w g v (c + (parts_in s n look room i.rest).reads) (spots_of s n look room v i)
     Answered ends v c = c ≤ worth s n w g
     Answered (refuses r) v c = c ≤ worth s n w g
 
@@ -52,27 +52,27 @@ module _ (s : List ℕ) (n : RecordNumber) (look : RecordNumber → Option (List
         rises = rising-lo (spot w.raw g) (spot h.at.raw p.end) (spot v.raw q.end) gave p.rises q.rises;
       }
 
-      come-on : (t : Going) (x : Small) → Good s n look room h.at p.end x → turnAfter s n look h.reads x ≡ go t → Come t
-      unfolding turnAfter
+      come-on : (t : Going) (x : Small) → Good s n look room h.at p.end x → turn_after s n look h.reads x ≡ go t → Come t
+      unfolding turn_after
       come-on t (passes v c) q e = subst Come (the-go e) (then v c [] q)
       come-on t (answers a v c) q e = absurd (stop-go e)
 
-      answered : (x : Small) → Good s n look room h.at p.end x → (l : Left) → turnAfter s n look h.reads x ≡ stop l → Answers l
-      unfolding turnAfter
+      answered : (x : Small) → Good s n look room h.at p.end x → (l : Left) → turn_after s n look h.reads x ≡ stop l → Answers l
+      unfolding turn_after
       answered (passes v c) q l e = absurd (go-stop e)
       answered (answers (gives i) v c) q l e =
           let r = (parts_in s n look room i.rest).reads in
           let a : h.reads + (c + r) ≡ h.reads + c + r = omega arith in
-          subst Answers (the-stop e) (subst (λ (x : ℕ). Goes s n w g v x (spotsOf s n look room v i)) a (then v (c + r) (spotsOf s n look room v i) q))
+          subst Answers (the-stop e) (subst (λ (x : ℕ). Goes s n w g v x (spots_of s n look room v i)) a (then v (c + r) (spots_of s n look room v i) q))
       answered (answers ends v c) q l e = subst Answers (the-stop e) (omega (arith, p.paid))
       answered (answers (refuses r) v c) q l e = subst Answers (the-stop e) (omega (arith, p.paid))
 
-    next-good : Answers (nextIn s n look w)
-    unfolding nextIn turn
+    next-good : Answers (next_in s n look w)
+    unfolding next_in turn
     next-good =
         walked (λ x. measure s x.at) (turn s n look) never Come Answers (falls s n look)
-        (λ h t p e. come-on h p t (smallStep s n look h.at) (step-good s n look room z h.at p.end p.stands) e)
-        (λ h l p e. answered h p (smallStep s n look h.at) (step-good s n look room z h.at p.end p.stands) l e) (going w 0)
+        (λ h t p e. come-on h p t (small_step s n look h.at) (step-good s n look room z h.at p.end p.stands) e)
+        (λ h l p e. answered h p (small_step s n look h.at) (step-good s n look room z h.at p.end p.stands) l e) (going w 0)
         (record { end = g; stands = st; paid = omega arith; rises = here w.raw g g (le_refl g) })
 
   -- the whole listing, after k reads, from where the entries that gave parts end at g
@@ -87,32 +87,32 @@ module _ (s : List ℕ) (n : RecordNumber) (look : RecordNumber → Option (List
 
   listed-after : (w : State) (g : ℕ) (st : Stands s n w g) (k r : ℕ) (v : State) (a : Answer Item) → Answered w g st a v r → (on : ℕ → State → ℕ) (items : State → List (List Spot))
       → ((v : State) (g k : ℕ) → Stands s n v g → Listed v g k (on k v) (items v))
-      → Listed w g k (countAfter s n look room on (k + r) v a) (itemsAfter s n look room items v a)
-  unfolding countAfter itemsAfter flat
+      → Listed w g k (count_after s n look room on (k + r) v a) (items_after s n look room items v a)
+  unfolding count_after items_after flat
   listed-after w g st k r v (gives i) h on items ih =
       let c = (parts_in s n look room i.rest).reads in
       let l = ih v h.end (k + r + c) h.stands in
       record {
         bound = omega (arith, h.paid, l.bound);
         end = l.end;
-        rises = rising-append (spot w.raw g) (spot v.raw h.end) l.end (spotsOf s n look room v i) (flat (items v)) h.rises l.rises;
+        rises = rising-append (spot w.raw g) (spot v.raw h.end) l.end (spots_of s n look room v i) (flat (items v)) h.rises l.rises;
       }
   listed-after w g st k r v ends h on items ih = listed-none w g k (k + r) (omega arith)
   listed-after w g st k r v (refuses x) h on items ih = listed-none w g k (k + r) (omega arith)
 
-  pub listed : (f : ℕ) (w : State) (g k : ℕ) → Stands s n w g → Listed w g k (countRun s n look room f k w) (itemsRun s n look room f w)
-  unfolding countRun itemsRun countNext itemsNext
+  pub listed : (f : ℕ) (w : State) (g k : ℕ) → Stands s n w g → Listed w g k (count_run s n look room f k w) (items_run s n look room f w)
+  unfolding count_run items_run count_next items_next
   listed zero w g k st = listed-none w g k k (omega arith)
   listed (suc f) w g k st =
-      listed-after w g st k (nextIn s n look w).reads (nextIn s n look w).left (nextIn s n look w).answer (next-good w g st)
-      (countRun s n look room f) (itemsRun s n look room f) (listed f)
+      listed-after w g st k (next_in s n look w).reads (next_in s n look w).left (next_in s n look w).answer (next-good w g st)
+      (count_run s n look room f) (items_run s n look room f) (listed f)
 
   fresh-stands : Stands s n (fresh_of s) 0
   unfolding fresh_of
   fresh-stands = unlisted s n (fresh_of s) 0 refl
 
   fresh-listed : Listed (fresh_of s) 0 0 (count_of s n look room) (items_of s n look room)
-  unfolding count_of countFrom items_of
+  unfolding count_of count_from items_of
   fresh-listed = listed (suc (measure s (fresh_of s))) (fresh_of s) 0 0 fresh-stands
 
   -- with no list open there is no more left than the record

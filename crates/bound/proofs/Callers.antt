@@ -11,46 +11,46 @@ use Rattle.fields.specs.declared.RecordNumber.{RecordNumber}
 use Rattle.fields.specs.declared.Refusal.{Refusal}
 use Rattle.fields.proofs.Cases.{yes, no}
 use Rattle.fields.proofs.Answers.{ended-given, refused-given}
-use Rattle.table.specs.Check.{openTable}
-use Rattle.table.specs.Held.{recordOf}
+use Rattle.table.specs.Check.{open_table}
+use Rattle.table.specs.Held.{record_of}
 use Rattle.table.specs.declared.Numbers.{Numbers}
 use Rattle.table.proofs.Sound.{sound, opened}
 use Rattle.turns.specs.State.{Lies}
-use Rattle.items.specs.Start.{fresh_of, insideOf}
-use Rattle.items.specs.Items.{Left, leaves, nextIn, nextAfter, next_of}
+use Rattle.items.specs.Start.{fresh_of, inside_of}
+use Rattle.items.specs.Items.{Left, leaves, next_in, next_after, next_of}
 use Rattle.turns.specs.declared.State.{State}
 use Rattle.turns.specs.declared.Item.{Item}
 use Rattle.turns.specs.declared.Rest.{Rest}
 use Rattle.items.proofs.Rests.{no-list-lies}
 use Rattle.items.proofs.Kept.{next-lies, item-lies}
-use Rattle.parts.specs.Parts.{Listing, parts_in, partsOpened, parts_of}
-use Rattle.bound.specs.Run.{countFrom, count_of}
+use Rattle.parts.specs.Parts.{Listing, parts_in, parts_opened, parts_of}
+use Rattle.bound.specs.Run.{count_from, count_of}
 use Rattle.bound.proofs.Ends.{count-item, count-end, count-refusal}
 use Rattle.bound.proofs.Third.{third_of}
 
 -- a list that lies inside the record passes check 22
-inside_of : (s : List ℕ) (n : RecordNumber) (l : Rest) → Lies (length s) l → insideOf s n l ≡ gives tt
-unfolding insideOf
-inside_of s n l h = by-list l.is refl
+lies-inside : (s : List ℕ) (n : RecordNumber) (l : Rest) → Lies (length s) l → inside_of s n l ≡ gives tt
+unfolding inside_of
+lies-inside s n l h = by-list l.is refl
   where
-    by-list : (t : Bool) → l.is ≡ t → insideOf s n l ≡ gives tt
+    by-list : (t : Bool) → l.is ≡ t → inside_of s n l ≡ gives tt
     by-list true e = sym (yes _ _ _ e (no _ _ _ (le-ltb _ _ (h.order e)) (no _ _ _ (le-ltb _ _ (h.most e)) refl)))
     by-list false e = sym (no _ _ _ e refl)
 
 module _ (s : List ℕ) (n : RecordNumber) (t : List ℕ) where
   -- behind the opening checks, and with a list inside the record, the calls are the walk's
-  module _ (h : Numbers) (o : openTable s n t ≡ gives h) where
-    passes : (l : Rest) → Lies (length s) l → (openTable s n t ⟫ λ _. insideOf s n l) ≡ gives tt
+  module _ (h : Numbers) (o : open_table s n t ≡ gives h) where
+    passes : (l : Rest) → Lies (length s) l → (open_table s n t ⟫ λ _. inside_of s n l) ≡ gives tt
     unfolding ◌⟫◌
-    passes l y = ap (λ (a : Answer Numbers). a ⟫ λ _. insideOf s n l) o ∙ inside_of s n l y
+    passes l y = ap (λ (a : Answer Numbers). a ⟫ λ _. inside_of s n l) o ∙ lies-inside s n l y
 
-    next-is : (w : State) → Lies (length s) w.list → next_of s n t w ≡ nextIn s n (recordOf t) w
-    unfolding next_of nextAfter
-    next-is w y = ap (nextAfter s n t w) (passes w.list y)
+    next-is : (w : State) → Lies (length s) w.list → next_of s n t w ≡ next_in s n (record_of t) w
+    unfolding next_of next_after
+    next-is w y = ap (next_after s n t w) (passes w.list y)
 
-    parts_is : (room : ℕ) (l : Rest) → Lies (length s) l → parts_of s n t room l ≡ parts_in s n (recordOf t) room l
-    unfolding parts_of partsOpened
-    parts_is room l y = ap (partsOpened s n t room l) (passes l y)
+    parts_is : (room : ℕ) (l : Rest) → Lies (length s) l → parts_of s n t room l ≡ parts_in s n (record_of t) room l
+    unfolding parts_of parts_opened
+    parts_is room l y = ap (parts_opened s n t room l) (passes l y)
 
     small : length s ≤ 4096
     small = let p = opened s n t h o in omega (arith, p.fits, (sound t h p.table).sized)
@@ -63,31 +63,31 @@ module _ (s : List ℕ) (n : RecordNumber) (t : List ℕ) where
       item : (w : State) (i : Item) (c : ℕ) → (next_of s n t w).answer ≡ gives i → Calls (next_of s n t w).left c
           → Calls w ((next_of s n t w).reads + (parts_of s n t room i.rest).reads + c)
 
-    calls_count : (h : Numbers) → openTable s n t ≡ gives h → (k : ℕ) {w : State} {c : ℕ} → Lies (length s) w.list → Calls w c → k + c ≡ countFrom s n (recordOf t) room k w
+    calls_count : (h : Numbers) → open_table s n t ≡ gives h → (k : ℕ) {w : State} {c : ℕ} → Lies (length s) w.list → Calls w c → k + c ≡ count_from s n (record_of t) room k w
     calls_count h o k y (end w e) =
         let q = next-is h o w y in
-        ap (λ (l : Left). k + l.reads) q ∙ sym (count-end s n (recordOf t) room k w (sym (ap (λ (l : Left). l.answer) q) ∙ e))
+        ap (λ (l : Left). k + l.reads) q ∙ sym (count-end s n (record_of t) room k w (sym (ap (λ (l : Left). l.answer) q) ∙ e))
     calls_count h o k y (refusal w r e) =
         let q = next-is h o w y in
-        ap (λ (l : Left). k + l.reads) q ∙ sym (count-refusal s n (recordOf t) room k w r (sym (ap (λ (l : Left). l.answer) q) ∙ e))
+        ap (λ (l : Left). k + l.reads) q ∙ sym (count-refusal s n (record_of t) room k w r (sym (ap (λ (l : Left). l.answer) q) ∙ e))
     calls_count h o k y (item w i d e rest) =
         let q = next-is h o w y in
-        let a : (nextIn s n (recordOf t) w).answer ≡ gives i = sym (ap (λ (l : Left). l.answer) q) ∙ e in
-        let p = parts_is h o room i.rest (item-lies s n (recordOf t) w (small h o) y i a) in
-        let v = subst (λ (l : Left). Lies (length s) l.left.list) (sym q) (next-lies s n (recordOf t) w (small h o) y) in
+        let a : (next_in s n (record_of t) w).answer ≡ gives i = sym (ap (λ (l : Left). l.answer) q) ∙ e in
+        let p = parts_is h o room i.rest (item-lies s n (record_of t) w (small h o) y i a) in
+        let v = subst (λ (l : Left). Lies (length s) l.left.list) (sym q) (next-lies s n (record_of t) w (small h o) y) in
         let j = k + (next_of s n t w).reads + (parts_of s n t room i.rest).reads in
         let x : k + ((next_of s n t w).reads + (parts_of s n t room i.rest).reads + d) ≡ j + d = omega arith in
         x ∙ calls_count h o j v rest
-        ∙ ap (λ (l : Left). countFrom s n (recordOf t) room (k + l.reads + (parts_of s n t room i.rest).reads) l.left) q
-        ∙ ap (λ (l : Listing). countFrom s n (recordOf t) room (k + (nextIn s n (recordOf t) w).reads + l.reads) (nextIn s n (recordOf t) w).left) p
-        ∙ sym (count-item s n (recordOf t) room k w i a)
+        ∙ ap (λ (l : Left). count_from s n (record_of t) room (k + l.reads + (parts_of s n t room i.rest).reads) l.left) q
+        ∙ ap (λ (l : Listing). count_from s n (record_of t) room (k + (next_in s n (record_of t) w).reads + l.reads) (next_in s n (record_of t) w).left) p
+        ∙ sym (count-item s n (record_of t) room k w i a)
 
     fresh-lies : Lies (length s) (fresh_of s).list
     unfolding fresh_of
     fresh-lies = no-list-lies s
 
     -- behind the opening checks it is the count of the third demand
-    pub calls-counted : (h : Numbers) → openTable s n t ≡ gives h → (c : ℕ) → Calls (fresh_of s) c → c ≡ count_of s n (recordOf t) room
+    pub calls-counted : (h : Numbers) → open_table s n t ≡ gives h → (c : ℕ) → Calls (fresh_of s) c → c ≡ count_of s n (record_of t) room
     unfolding count_of
     calls-counted h o c l = let e = calls_count h o 0 fresh-lies l in omega (arith, e)
 
@@ -97,20 +97,20 @@ module _ (s : List ℕ) (n : RecordNumber) (t : List ℕ) where
     none_read x f q (refusal w r e) = ap (λ (l : Left). l.reads) q
     none_read x f q (item w i d e rest) = absurd (f i (sym (ap (λ (l : Left). l.answer) q) ∙ e))
 
-    refused-opening : (a : Answer Numbers) (w : State) → openTable s n t ≡ a → next_of s n t w ≡ nextAfter s n t w (a ⟫ λ _. insideOf s n w.list)
+    refused-opening : (a : Answer Numbers) (w : State) → open_table s n t ≡ a → next_of s n t w ≡ next_after s n t w (a ⟫ λ _. inside_of s n w.list)
     unfolding next_of
-    refused-opening a w e = ap (λ (x : Answer Numbers). nextAfter s n t w (x ⟫ λ _. insideOf s n w.list)) e
+    refused-opening a w e = ap (λ (x : Answer Numbers). next_after s n t w (x ⟫ λ _. inside_of s n w.list)) e
 
     -- a + 3e + 2ea at most
     abbrev pub Few : ℕ → Type 0
     Few c = c ≤ length s / 16 + 3 * (length s / 26) + 2 * (length s / 26 * (length s / 16))
 
-    bounded-by : (a : Answer Numbers) → openTable s n t ≡ a → (c : ℕ) → Calls (fresh_of s) c → Few c
-    unfolding nextAfter ◌⟫◌
+    bounded-by : (a : Answer Numbers) → open_table s n t ≡ a → (c : ℕ) → Calls (fresh_of s) c → Few c
+    unfolding next_after ◌⟫◌
     bounded-by (gives h) e c l = subst Few (sym (calls-counted h e c l)) (third_of s n t h room e).bound
     bounded-by ends e c l = subst Few (sym (none_read ends (λ i q. ended-given q) (refused-opening ends (fresh_of s) e) l)) zero-le
     bounded-by (refuses r) e c l = subst Few (sym (none_read (refuses r) (λ i q. refused-given q) (refused-opening (refuses r) (fresh_of s) e) l)) zero-le
 
     -- so for any bytes at all, record and table, the reads reported are bounded
     pub calls-bounded : (c : ℕ) → Calls (fresh_of s) c → Few c
-    calls-bounded = bounded-by (openTable s n t) refl
+    calls-bounded = bounded-by (open_table s n t) refl

@@ -8,13 +8,13 @@ use native.Mathlib.Omega.{arith}
 use Rattle.fields.specs.Answer.{Answer, gives, ends, refuses}
 use Rattle.fields.specs.declared.RecordNumber.{RecordNumber}
 use Rattle.fields.specs.declared.Refusal.{Refusal}
-use Rattle.items.specs.Items.{measure, nextIn}
+use Rattle.items.specs.Items.{measure, next_in}
 use Rattle.turns.specs.declared.State.{State}
 use Rattle.turns.specs.declared.Item.{Item}
 use Rattle.items.proofs.Kept.{next-sinks}
 use Rattle.parts.specs.Parts.{parts_in}
-use Rattle.bound.specs.Run.{Spot, countAfter, countNext, countRun, countFrom, spotsOf, itemsAfter, itemsNext, itemsRun}
-use Rattle.bound.specs.Trail.{Read, nextTrail, partsTrail, trailAfter, trailNext, trailFrom}
+use Rattle.bound.specs.Run.{Spot, count_after, count_next, count_run, count_from, spots_of, items_after, items_next, items_run}
+use Rattle.bound.specs.Trail.{Read, next_trail, parts_trail, trail_after, trail_next, trail_from}
 
 module _ (s : List ℕ) (n : RecordNumber) (look : RecordNumber → Option (List ℕ)) (room : ℕ) where
   -- what holds of calls that go on from an item with a lower measure
@@ -23,68 +23,68 @@ module _ (s : List ℕ) (n : RecordNumber) (look : RecordNumber → Option (List
 
   -- a run whose step looks at no more than the answer of one call
   enough : {X : Type 0} (run : ℕ → State → X)
-      → ((f g : ℕ) (w : State) → ((i : Item) → (nextIn s n look w).answer ≡ gives i → run f (nextIn s n look w).left ≡ run g (nextIn s n look w).left) → run (suc f) w ≡ run (suc g) w)
+      → ((f g : ℕ) (w : State) → ((i : Item) → (next_in s n look w).answer ≡ gives i → run f (next_in s n look w).left ≡ run g (next_in s n look w).left) → run (suc f) w ≡ run (suc g) w)
       → Same run
   enough run step zero g w a b = absurd (not-suc-le-zero a)
   enough run step (suc f) zero w a b = absurd (not-suc-le-zero b)
   enough run step (suc f) (suc g) w a b =
-      step f g w (λ i e. let d = next-sinks s n look w i e in enough run step f g (nextIn s n look w).left (omega arith) (omega arith))
+      step f g w (λ i e. let d = next-sinks s n look w i e in enough run step f g (next_in s n look w).left (omega arith) (omega arith))
 
-  trail-after : (f g : ℕ) (v : State) (a : Answer Item) → ((i : Item) → a ≡ gives i → trailFrom s n look room f v ≡ trailFrom s n look room g v)
-      → trailAfter s n look room (trailFrom s n look room f) v a ≡ trailAfter s n look room (trailFrom s n look room g) v a
-  unfolding trailAfter
-  trail-after f g v (gives i) h = ap (λ (x : List Read). partsTrail s n look room i.rest ++ x) (h i refl)
+  trail-after : (f g : ℕ) (v : State) (a : Answer Item) → ((i : Item) → a ≡ gives i → trail_from s n look room f v ≡ trail_from s n look room g v)
+      → trail_after s n look room (trail_from s n look room f) v a ≡ trail_after s n look room (trail_from s n look room g) v a
+  unfolding trail_after
+  trail-after f g v (gives i) h = ap (λ (x : List Read). parts_trail s n look room i.rest ++ x) (h i refl)
   trail-after f g v ends h = refl
   trail-after f g v (refuses r) h = refl
 
-  pub trail-enough : Same (trailFrom s n look room)
-  unfolding trailFrom trailNext
+  pub trail-enough : Same (trail_from s n look room)
+  unfolding trail_from trail_next
   trail-enough =
-      enough (trailFrom s n look room)
-      (λ f g w h. ap (λ (x : List Read). nextTrail s n look w ++ x) (trail-after f g (nextIn s n look w).left (nextIn s n look w).answer h))
+      enough (trail_from s n look room)
+      (λ f g w h. ap (λ (x : List Read). next_trail s n look w ++ x) (trail-after f g (next_in s n look w).left (next_in s n look w).answer h))
 
-  items-after : (f g : ℕ) (v : State) (a : Answer Item) → ((i : Item) → a ≡ gives i → itemsRun s n look room f v ≡ itemsRun s n look room g v)
-      → itemsAfter s n look room (itemsRun s n look room f) v a ≡ itemsAfter s n look room (itemsRun s n look room g) v a
-  unfolding itemsAfter
-  items-after f g v (gives i) h = ap (λ (x : List (List Spot)). spotsOf s n look room v i ∷ x) (h i refl)
+  items-after : (f g : ℕ) (v : State) (a : Answer Item) → ((i : Item) → a ≡ gives i → items_run s n look room f v ≡ items_run s n look room g v)
+      → items_after s n look room (items_run s n look room f) v a ≡ items_after s n look room (items_run s n look room g) v a
+  unfolding items_after
+  items-after f g v (gives i) h = ap (λ (x : List (List Spot)). spots_of s n look room v i ∷ x) (h i refl)
   items-after f g v ends h = refl
   items-after f g v (refuses r) h = refl
 
-  pub items-enough : Same (itemsRun s n look room)
-  unfolding itemsRun itemsNext
-  items-enough = enough (itemsRun s n look room) (λ f g w h. items-after f g (nextIn s n look w).left (nextIn s n look w).answer h)
+  pub items-enough : Same (items_run s n look room)
+  unfolding items_run items_next
+  items-enough = enough (items_run s n look room) (λ f g w h. items-after f g (next_in s n look w).left (next_in s n look w).answer h)
 
-  count-after : (f g k : ℕ) (v : State) (a : Answer Item) → ((i : Item) → a ≡ gives i → (k : ℕ) → countRun s n look room f k v ≡ countRun s n look room g k v)
-      → countAfter s n look room (countRun s n look room f) k v a ≡ countAfter s n look room (countRun s n look room g) k v a
-  unfolding countAfter
+  count-after : (f g k : ℕ) (v : State) (a : Answer Item) → ((i : Item) → a ≡ gives i → (k : ℕ) → count_run s n look room f k v ≡ count_run s n look room g k v)
+      → count_after s n look room (count_run s n look room f) k v a ≡ count_after s n look room (count_run s n look room g) k v a
+  unfolding count_after
   count-after f g k v (gives i) h = h i refl _
   count-after f g k v ends h = refl
   count-after f g k v (refuses r) h = refl
 
-  pub count-enough : (f g k : ℕ) (w : State) → measure s w < f → measure s w < g → countRun s n look room f k w ≡ countRun s n look room g k w
-  unfolding countRun countNext
+  pub count-enough : (f g k : ℕ) (w : State) → measure s w < f → measure s w < g → count_run s n look room f k w ≡ count_run s n look room g k w
+  unfolding count_run count_next
   count-enough zero g k w a b = absurd (not-suc-le-zero a)
   count-enough (suc f) zero k w a b = absurd (not-suc-le-zero b)
   count-enough (suc f) (suc g) k w a b =
-      count-after f g _ (nextIn s n look w).left (nextIn s n look w).answer
-      (λ i e j. let d = next-sinks s n look w i e in count-enough f g j (nextIn s n look w).left (omega arith) (omega arith))
+      count-after f g _ (next_in s n look w).left (next_in s n look w).answer
+      (λ i e j. let d = next-sinks s n look w i e in count-enough f g j (next_in s n look w).left (omega arith) (omega arith))
 
   -- the count, call by call: an item with its parts, and on
-  pub count-item : (k : ℕ) (w : State) (i : Item) → (nextIn s n look w).answer ≡ gives i
-      → countFrom s n look room k w ≡ countFrom s n look room (k + (nextIn s n look w).reads + (parts_in s n look room i.rest).reads) (nextIn s n look w).left
-  unfolding countFrom countRun countNext countAfter
+  pub count-item : (k : ℕ) (w : State) (i : Item) → (next_in s n look w).answer ≡ gives i
+      → count_from s n look room k w ≡ count_from s n look room (k + (next_in s n look w).reads + (parts_in s n look room i.rest).reads) (next_in s n look w).left
+  unfolding count_from count_run count_next count_after
   count-item k w i e =
-      let v = (nextIn s n look w).left in
+      let v = (next_in s n look w).left in
       let d = next-sinks s n look w i e in
-      ap (countAfter s n look room (countRun s n look room (measure s w)) (k + (nextIn s n look w).reads) v) e
+      ap (count_after s n look room (count_run s n look room (measure s w)) (k + (next_in s n look w).reads) v) e
       ∙ count-enough (measure s w) (suc (measure s v)) _ v d (lt-suc_self (measure s v))
 
   -- the end
-  pub count-end : (k : ℕ) (w : State) → (nextIn s n look w).answer ≡ ends → countFrom s n look room k w ≡ k + (nextIn s n look w).reads
-  unfolding countFrom countRun countNext countAfter
-  count-end k w e = ap (countAfter s n look room (countRun s n look room (measure s w)) (k + (nextIn s n look w).reads) (nextIn s n look w).left) e
+  pub count-end : (k : ℕ) (w : State) → (next_in s n look w).answer ≡ ends → count_from s n look room k w ≡ k + (next_in s n look w).reads
+  unfolding count_from count_run count_next count_after
+  count-end k w e = ap (count_after s n look room (count_run s n look room (measure s w)) (k + (next_in s n look w).reads) (next_in s n look w).left) e
 
   -- the first refusal
-  pub count-refusal : (k : ℕ) (w : State) (r : Refusal) → (nextIn s n look w).answer ≡ refuses r → countFrom s n look room k w ≡ k + (nextIn s n look w).reads
-  unfolding countFrom countRun countNext countAfter
-  count-refusal k w r e = ap (countAfter s n look room (countRun s n look room (measure s w)) (k + (nextIn s n look w).reads) (nextIn s n look w).left) e
+  pub count-refusal : (k : ℕ) (w : State) (r : Refusal) → (next_in s n look w).answer ≡ refuses r → count_from s n look room k w ≡ k + (next_in s n look w).reads
+  unfolding count_from count_run count_next count_after
+  count-refusal k w r e = ap (count_after s n look room (count_run s n look room (measure s w)) (k + (next_in s n look w).reads) (next_in s n look w).left) e

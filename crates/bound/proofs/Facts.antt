@@ -13,12 +13,12 @@ use Rattle.fields.specs.Answer.{gives}
 use Rattle.fields.specs.declared.RecordNumber.{RecordNumber}
 use Rattle.fields.specs.declared.Refusal.{Refusal}
 use Rattle.fields.proofs.Cases.{either}
-use Rattle.raw.specs.Find.{findOf}
+use Rattle.raw.specs.Find.{find_of}
 use Rattle.raw.proofs.Finds.{few-reads}
 use Rattle.list.specs.Entry.{entry_of}
 use Rattle.list.specs.declared.Entry.{Entry}
 use Rattle.list.proofs.Given as entries
-use Rattle.lookup.specs.Lookup.{soughtIn, lookupIn}
+use Rattle.lookup.specs.Lookup.{sought_in, lookup_in}
 use Rattle.table.proofs.Holds.{the-some}
 use Rattle.lookup.proofs.Looks.{sought}
 use Rattle.turns.specs.State.{part_of}
@@ -30,13 +30,13 @@ abbrev pub Sized : List ℕ → (RecordNumber → Option (List ℕ)) → Type 0
 Sized s look = (w : RecordNumber) (b : List ℕ) → look w ≡ some b → length b ≤ length s
 
 module _ (s : List ℕ) (n : RecordNumber) (look : RecordNumber → Option (List ℕ)) (z : Sized s look) where
-  looked-sized : (w : RecordNumber) (at : ℕ) (t : List ℕ) → lookupIn s n look w at ≡ gives t → length t ≤ length s
-  unfolding soughtIn
+  looked-sized : (w : RecordNumber) (at : ℕ) (t : List ℕ) → lookup_in s n look w at ≡ gives t → length t ≤ length s
+  unfolding sought_in
   looked-sized w at t e =
       ⊎_elim (λ q. subst (λ (x : List ℕ). length x ≤ length s) (the-some q) (le_refl (length s))) (z w t) (either _ _ _ _ (sought s n look w at t e).is)
 
   -- the search in a record that was looked up
-  pub few : (w : RecordNumber) (at : ℕ) (t : List ℕ) → lookupIn s n look w at ≡ gives t → (ty instance : ℕ) (miss : Refusal) → (findOf t w ty instance miss).reads ≤ length s / 16
+  pub few : (w : RecordNumber) (at : ℕ) (t : List ℕ) → lookup_in s n look w at ≡ gives t → (ty instance : ℕ) (miss : Refusal) → (find_of t w ty instance miss).reads ≤ length s / 16
   few w at t e ty instance miss = omega (arith, few-reads t w ty instance miss, looked-sized w at t e)
 
 -- an entry that stands at the front of a list is at least 26 long, and ends inside it

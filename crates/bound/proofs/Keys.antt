@@ -9,10 +9,10 @@ use Rattle.fields.specs.Answer.{Answer, gives, ends, refuses}
 use Rattle.fields.specs.declared.RecordNumber.{RecordNumber}
 use Rattle.fields.proofs.Cases.{yes}
 use Rattle.list.specs.declared.Entry.{Entry}
-use Rattle.turns.specs.State.{noKey}
+use Rattle.turns.specs.State.{no_key}
 use Rattle.turns.specs.Key.{agrees, key_of}
 use Rattle.turns.specs.declared.Key.{Key}
-use Rattle.part.specs.Join.{judgePart, keyFor}
+use Rattle.part.specs.Join.{judge_part, key_for}
 use Rattle.bound.proofs.Facts.{by-test}
 
 -- an item's key is set
@@ -21,13 +21,13 @@ unfolding key_of
 key_set e part = refl
 
 -- the first entry's own key
-pub first_key : (e : Entry) (part : List ℕ) → keyFor noKey e part ≡ key_of e part
-unfolding keyFor pick
+pub first_key : (e : Entry) (part : List ℕ) → key_for no_key e part ≡ key_of e part
+unfolding key_for pick
 first_key e part = refl
 
 -- and then it stays
-pub key-stays : (k : Key) (e : Entry) (part : List ℕ) → k.is ≡ true → keyFor k e part ≡ k
-unfolding keyFor
+pub key-stays : (k : Key) (e : Entry) (part : List ℕ) → k.is ≡ true → key_for k e part ≡ k
+unfolding key_for
 key-stays k e part i = sym (yes _ _ _ i refl)
 
 module _ (k : Key) (i : k.is ≡ true) (e : Entry) (part : List ℕ) where
@@ -41,6 +41,6 @@ module _ (k : Key) (i : k.is ≡ true) (e : Entry) (part : List ℕ) where
   Joins ends = Unit {0}
   Joins (refuses r) = Unit {0}
 
-  pub joins : (n : RecordNumber) (place : ℕ) → Joins (judgePart k e part n place)
-  unfolding judgePart
+  pub joins : (n : RecordNumber) (place : ℕ) → Joins (judge_part k e part n place)
+  unfolding judge_part
   joins n place = by-test Joins _ _ _ (λ a. by-test Joins _ _ _ (λ _. by-test Joins _ _ _ (λ b. agreed a b) (λ _. tt)) (λ _. tt)) (λ _. tt)

@@ -9,28 +9,28 @@ use native.Mathlib.Omega.{arith}
 use borrow.Author.Tests.{eqb-true}
 use lib.ListN.{length}
 use Rattle.fields.specs.Answer.{Answer, gives, ends, refuses}
-use Rattle.fields.specs.Open.{checkFile, openOf, open_in}
+use Rattle.fields.specs.Open.{check_file, open_of, open_in}
 use Rattle.fields.specs.declared.RecordNumber.{RecordNumber}
 use Rattle.fields.proofs.Cases.{both, not-second}
 use Rattle.fields.proofs.Answers.{refused-given}
 use Rattle.table.specs.Check.{table_of}
-use Rattle.table.specs.Held.{Held, recordOf, base_of}
+use Rattle.table.specs.Held.{Held, record_of, base_of}
 use Rattle.table.specs.declared.Numbers.{Numbers}
 use Rattle.items.specs.Start.{fresh_of}
-use Rattle.items.specs.Items.{measure, nextIn}
+use Rattle.items.specs.Items.{measure, next_in}
 use Rattle.turns.specs.declared.State.{State}
 use Rattle.turns.specs.declared.Item.{Item}
 use Rattle.items.proofs.Kept.{next-sinks}
-use Rattle.bound.specs.Run.{countAfter, countNext, countRun, countFrom, count_of}
+use Rattle.bound.specs.Run.{count_after, count_next, count_run, count_from, count_of}
 use Rattle.bound.proofs.Third.{Third, third, table-sized}
-use Rattle.line.specs.Lines.{Text, recordLine, endLine, stoppedLine}
-use Rattle.lines.specs.Listing.{itemLines, linesAfter, linesNext, linesRun, walkLines, openedLines, tableRefused, baseLines, checkedLines, listingOf}
-use Rattle.gather.specs.Gather.{room, partsFor}
+use Rattle.line.specs.Lines.{Text, record_line, end_line, stopped_line}
+use Rattle.lines.specs.Listing.{item_lines, lines_after, lines_next, lines_run, walk_lines, opened_lines, table_refused, base_lines, checked_lines, listing_of}
+use Rattle.gather.specs.Gather.{room, parts_for}
 
 -- lines whose last is `end reads c` or `stopped N reads c`
 pub data Last (c : ℕ) : List Text → Type 0 where
-  ended : Last c (endLine c ∷ [])
-  stopped : (r : ℕ) → Last c (stoppedLine r c ∷ [])
+  ended : Last c (end_line c ∷ [])
+  stopped : (r : ℕ) → Last c (stopped_line r c ∷ [])
   before : (x : Text) (l : List Text) → Last c l → Last c (x ∷ l)
 
 behind : {c : ℕ} (l k : List Text) → Last c k → Last c (l ++ k)
@@ -39,22 +39,22 @@ behind (x ∷ l) k h = before x (l ++ k) (behind l k h)
 
 module _ (s : List ℕ) (n : RecordNumber) (look : RecordNumber → Option (List ℕ)) where
   printed-after : (on : ℕ → State → List Text) (count : ℕ → State → ℕ) (k : ℕ) (v : State) (a : Answer Item)
-      → ((i : Item) → a ≡ gives i → (k : ℕ) → Last (count k v) (on k v)) → Last (countAfter s n look room count k v a) (linesAfter s n look on k v a)
-  unfolding countAfter linesAfter partsFor
-  printed-after on count k v (gives i) h = behind (itemLines s n look i) _ (h i refl _)
+      → ((i : Item) → a ≡ gives i → (k : ℕ) → Last (count k v) (on k v)) → Last (count_after s n look room count k v a) (lines_after s n look on k v a)
+  unfolding count_after lines_after parts_for
+  printed-after on count k v (gives i) h = behind (item_lines s n look i) _ (h i refl _)
   printed-after on count k v ends h = ended
   printed-after on count k v (refuses r) h = stopped r.number
 
-  printed-run : (f k : ℕ) (w : State) → measure s w < f → Last (countRun s n look room f k w) (linesRun s n look f k w)
-  unfolding countRun countNext linesRun linesNext
+  printed-run : (f k : ℕ) (w : State) → measure s w < f → Last (count_run s n look room f k w) (lines_run s n look f k w)
+  unfolding count_run count_next lines_run lines_next
   printed-run zero k w h = absurd (not-suc-le-zero h)
   printed-run (suc f) k w h =
-      printed-after (linesRun s n look f) (countRun s n look room f) _ (nextIn s n look w).left (nextIn s n look w).answer
-      (λ i e j. let d = next-sinks s n look w i e in printed-run f j (nextIn s n look w).left (omega arith))
+      printed-after (lines_run s n look f) (count_run s n look room f) _ (next_in s n look w).left (next_in s n look w).answer
+      (λ i e j. let d = next-sinks s n look w i e in printed-run f j (next_in s n look w).left (omega arith))
 
   -- the lines of a fresh walk
-  pub printed : Last (count_of s n look room) (walkLines s n look 0 (fresh_of s))
-  unfolding count_of countFrom walkLines
+  pub printed : Last (count_of s n look room) (walk_lines s n look 0 (fresh_of s))
+  unfolding count_of count_from walk_lines
   printed = printed-run (suc (measure s (fresh_of s))) 0 (fresh_of s) (lt-suc_self (measure s (fresh_of s)))
 
 -- the listing of a table t whose base record is s: its last line tells a count, which is at most a + 3e + 2ea
@@ -70,7 +70,7 @@ Sure ends = ⊥
 Sure (refuses r) = Unit {0}
 
 open-sure : (s : List ℕ) (n : RecordNumber) (size : ℕ) → Sure (open_in s n size)
-unfolding open_in openOf checkFile
+unfolding open_in open_of check_file
 open-sure s n size = both Sure _ _ _ (both Sure _ _ _ (both Sure _ _ _ tt tt) tt) tt
 
 module _ (t : List ℕ) (h : Numbers) (q : table_of t ≡ gives h) (b : Held) where
@@ -79,32 +79,32 @@ module _ (t : List ℕ) (h : Numbers) (q : table_of t ≡ gives h) (b : Held) wh
   fits e = eqb-true _ _ (not-second _ _ _ _ e refused-given).0
 
   opened-tells : (x : Text) (a : Answer Unit) → open_in b.bytes b.number h.size ≡ a → Sure a
-      → Tells b.bytes (x ∷ openedLines b.bytes b.number (recordOf t) a)
-  unfolding openedLines
+      → Tells b.bytes (x ∷ opened_lines b.bytes b.number (record_of t) a)
+  unfolding opened_lines
   opened-tells x (gives u) e y = record {
-    count = count_of b.bytes b.number (recordOf t) room;
-    last = before x _ (printed b.bytes b.number (recordOf t));
-    few = (third b.bytes b.number (recordOf t) room (table-sized b.bytes t h q (fits e))).bound;
+    count = count_of b.bytes b.number (record_of t) room;
+    last = before x _ (printed b.bytes b.number (record_of t));
+    few = (third b.bytes b.number (record_of t) room (table-sized b.bytes t h q (fits e))).bound;
   }
   opened-tells x ends e y = absurd y
   opened-tells x (refuses r) e y = record { count = 0; last = before x _ (stopped r.number); few = zero-le }
 
 -- a listing says that the table is refused, or tells such a count of the table's base record
 abbrev pub Listed : List ℕ → List Text → Type 0
-Listed t l = (l ≡ tableRefused) ⊎ ((b : Held) × (base_of t ≡ some b) × Tells b.bytes l)
+Listed t l = (l ≡ table_refused) ⊎ ((b : Held) × (base_of t ≡ some b) × Tells b.bytes l)
 
-base-listed : (t : List ℕ) (h : Numbers) → table_of t ≡ gives h → (o : Option Held) → base_of t ≡ o → Listed t (baseLines t h o)
-unfolding baseLines
+base-listed : (t : List ℕ) (h : Numbers) → table_of t ≡ gives h → (o : Option Held) → base_of t ≡ o → Listed t (base_lines t h o)
+unfolding base_lines
 base-listed t h q (some b) e = inr (b, e, opened-tells t h q b _ _ refl (open-sure b.bytes b.number h.size))
 base-listed t h q none e = inl refl
 
-checked-listed : (t : List ℕ) (a : Answer Numbers) → table_of t ≡ a → Listed t (checkedLines t a)
-unfolding checkedLines
+checked-listed : (t : List ℕ) (a : Answer Numbers) → table_of t ≡ a → Listed t (checked_lines t a)
+unfolding checked_lines
 checked-listed t (gives h) e = base-listed t h e (base_of t) refl
 checked-listed t ends e = inl refl
 checked-listed t (refuses r) e = inl refl
 
 -- for every table, whatever its bytes
-pub listing-listed : (t : List ℕ) → Listed t (listingOf t)
-unfolding listingOf
+pub listing-listed : (t : List ℕ) → Listed t (listing_of t)
+unfolding listing_of
 listing-listed t = both (Listed t) _ _ _ (inl refl) (checked-listed t (table_of t) refl)

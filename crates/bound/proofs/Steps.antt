@@ -13,23 +13,23 @@ use Rattle.fields.specs.Answer.{Answer, gives, ends, refuses}
 use Rattle.fields.specs.declared.RecordNumber.{RecordNumber}
 use Rattle.fields.proofs.Cases.{both}
 use Rattle.fields.proofs.Opens.{not-true}
-use Rattle.raw.specs.Step.{stepAt}
-use Rattle.values.specs.Value.{listIn}
+use Rattle.raw.specs.Step.{step_at}
+use Rattle.values.specs.Value.{list_in}
 use Rattle.raw.specs.declared.Attribute.{Attribute}
 use Rattle.values.specs.declared.Span.{Span}
 use Rattle.raw.proofs.Given.{Given, of-step}
 use Rattle.values.proofs.Spans.{list-short}
 use Rattle.list.specs.declared.Entry.{Entry}
-use Rattle.lookup.specs.Lookup.{lookupIn}
-use Rattle.turns.specs.State.{noList, listAt, state, part_of as listPart}
+use Rattle.lookup.specs.Lookup.{lookup_in}
+use Rattle.turns.specs.State.{no_list, list_at, state, part_of as listPart}
 use Rattle.turns.specs.Key.{agrees, key_of}
-use Rattle.turns.specs.Turn.{Small, passes, answers, closed, pastWith, past, cleared, passed, foundTurn, soughtTurn, lookedTurn, givenTurn, entryAfter, entryTurn, listTurn, rawAfter, rawTurn}
-use Rattle.items.specs.Items.{smallStep}
+use Rattle.turns.specs.Turn.{Small, passes, answers, closed, past_with, past, cleared, passed, found_turn, sought_turn, looked_turn, given_turn, entry_after, entry_turn, list_turn, raw_after, raw_turn}
+use Rattle.items.specs.Items.{small_step}
 use Rattle.turns.specs.declared.State.{State}
 use Rattle.turns.specs.declared.Item.{Item}
 use Rattle.turns.specs.declared.Rest.{Rest}
 use Rattle.parts.specs.Parts.{parts_in}
-use Rattle.bound.specs.Run.{Spot, spot, gaveIn, spotsOf}
+use Rattle.bound.specs.Run.{Spot, spot, gave_in, spots_of}
 use Rattle.bound.proofs.Value.{R, E, R-step, E-step, E-mono, val, val-pass, val-raw, val-entry, val-item, val-one, val-some}
 use Rattle.bound.proofs.Facts.{Sized, few, stood, by-test}
 use Rattle.bound.proofs.Rising as rising
@@ -72,17 +72,17 @@ module _ (s : List ℕ) (n : RecordNumber) where
   module _ (look : RecordNumber → Option (List ℕ)) (room : ℕ) where
     abbrev pub Good : State → ℕ → Small → Type 0
     Good w g (passes v c) = Goes w g v c []
-    Good w g (answers (gives i) v c) = Goes w g v (c + (parts_in s n look room i.rest).reads) (spotsOf s n look room v i)
+    Good w g (answers (gives i) v c) = Goes w g v (c + (parts_in s n look room i.rest).reads) (spots_of s n look room v i)
     Good w g (answers ends v c) = c ≤ worth w g
     Good w g (answers (refuses r) v c) = c ≤ worth w g
 
     -- an item without a list has no parts
-    alone : {w : State} {g : ℕ} {v : State} {c : ℕ} (i : Item) → i.rest ≡ noList → Goes w g v c []
-        → Goes w g v (c + (parts_in s n look room i.rest).reads) (spotsOf s n look room v i)
-    unfolding spotsOf parts_in gaveIn pick
+    alone : {w : State} {g : ℕ} {v : State} {c : ℕ} (i : Item) → i.rest ≡ no_list → Goes w g v c []
+        → Goes w g v (c + (parts_in s n look room i.rest).reads) (spots_of s n look room v i)
+    unfolding spots_of parts_in gave_in pick
     alone {w} {g} {v} {c} i q h =
         let e : c ≡ c + 0 = omega arith in
-        subst (λ (l : Rest). Goes w g v (c + (parts_in s n look room l).reads) (map (λ r. spot v.raw r.from) (gaveIn s n look room l))) (sym q)
+        subst (λ (l : Rest). Goes w g v (c + (parts_in s n look room l).reads) (map (λ r. spot v.raw r.from) (gave_in s n look room l))) (sym q)
         (subst (λ (x : ℕ). Goes w g v x []) e h)
 
     module _ (z : Sized s look) (w : State) (g : ℕ) (st : Stands w g) where
@@ -134,14 +134,14 @@ module _ (s : List ℕ) (n : RecordNumber) where
 
           -- an item with its parts
           parted : (i : Item) → i.rest ≡ w.list
-              → Goes w g (pastWith w e (key_of e (listPart s w.list))) (c + 1 + (parts_in s n look room i.rest).reads) (spotsOf s n look room (pastWith w e (key_of e (listPart s w.list))) i)
-          unfolding worth left pick spotsOf
+              → Goes w g (past_with w e (key_of e (listPart s w.list))) (c + 1 + (parts_in s n look room i.rest).reads) (spots_of s n look room (past_with w e (key_of e (listPart s w.list))) i)
+          unfolding worth left pick spots_of
           parted i f =
-              let v = pastWith w e (key_of e (listPart s w.list)) in
+              let v = past_with w e (key_of e (listPart s w.list)) in
               let t = begun s n w.raw look z room w.list e o q in
               let from : left w w.list.from ≡ length s - w.raw + (w.list.to - w.list.from) = left_open w w.list.from o in
-              subst (λ (l : Rest). Goes w g v (c + 1 + (parts_in s n look room l).reads) (map (λ r. spot v.raw r.from) (gaveIn s n look room l))) (sym f)
-              (subst (λ (x : ℕ). Goes w x v (c + 1 + (parts_in s n look room w.list).reads) (map (λ r. spot v.raw r.from) (gaveIn s n look room w.list))) owes
+              subst (λ (l : Rest). Goes w g v (c + 1 + (parts_in s n look room l).reads) (map (λ r. spot v.raw r.from) (gave_in s n look room l))) (sym f)
+              (subst (λ (x : ℕ). Goes w x v (c + 1 + (parts_in s n look room w.list).reads) (map (λ r. spot v.raw r.from) (gave_in s n look room w.list))) owes
               (record {
                 end = t.end;
                 stands = record { count = t.count; run = λ _. t.run };
@@ -149,21 +149,21 @@ module _ (s : List ℕ) (n : RecordNumber) where
                 rises = t.cost.rises;
               }))
 
-          found-good : (a : Answer Attribute) → Good w g (foundTurn (listPart s w.list) w e a (c + 1))
-          unfolding foundTurn
+          found-good : (a : Answer Attribute) → Good w g (found_turn (listPart s w.list) w e a (c + 1))
+          unfolding found_turn
           found-good ends = entry-some c h
           found-good (refuses r) = entry-some c h
           found-good (gives x) = both (Good w g) x.resident _ _ (alone _ refl without) (parted _ refl)
 
-        looked-good : agrees w.key e (listPart s w.list) ≡ false → (a : Answer (List ℕ)) → lookupIn s n look e.file w.list.from ≡ a
-            → Good w g (lookedTurn s n look (listPart s w.list) w e a)
-        unfolding lookedTurn soughtTurn
+        looked-good : agrees w.key e (listPart s w.list) ≡ false → (a : Answer (List ℕ)) → lookup_in s n look e.file w.list.from ≡ a
+            → Good w g (looked_turn s n look (listPart s w.list) w e a)
+        unfolding looked_turn sought_turn
         looked-good d ends p = entry-some 0 zero-le
         looked-good d (refuses r) p = entry-some 0 zero-le
         looked-good d (gives t) p = found-good d _ (few s n look z e.file w.list.from t p _ _ _) _
 
-        given-good : Good w g (givenTurn s n look (listPart s w.list) w e)
-        unfolding givenTurn
+        given-good : Good w g (given_turn s n look (listPart s w.list) w e)
+        unfolding given_turn
         given-good =
             both (Good w g) _ _ _
             (both (Good w g) _ _ _ over (by-test (Good w g) _ _ _ (λ _. over) (λ d. looked-good d _ refl)))
@@ -182,8 +182,8 @@ module _ (s : List ℕ) (n : RecordNumber) where
             rises = rising.here w.raw g g (le_refl g);
           }
 
-      entry-good : w.list.is ≡ true → (a : Answer Entry) → here s n w.list ≡ a → Good w g (entryAfter s n look (listPart s w.list) w a)
-      unfolding entryAfter
+      entry-good : w.list.is ≡ true → (a : Answer Entry) → here s n w.list ≡ a → Good w g (entry_after s n look (listPart s w.list) w a)
+      unfolding entry_after
       entry-good o ends q = list-ends o
       entry-good o (refuses r) q = zero-le
       entry-good o (gives e) q = given-good o e q
@@ -218,27 +218,27 @@ module _ (s : List ℕ) (n : RecordNumber) where
               short l f false e = omega (arith, left-shut (state (w.raw + h.length) l w.key) l.from e)
 
           passed-goes : Goes w g (passed w h) 1 []
-          passed-goes = onto noList (λ t. absurd (not-true t))
+          passed-goes = onto no_list (λ t. absurd (not-true t))
 
-          list-good : (a : Answer Span) → listIn s n h ≡ a → Good w g (listTurn w h a)
-          unfolding listTurn
+          list-good : (a : Answer Span) → list_in s n h ≡ a → Good w g (list_turn w h a)
+          unfolding list_turn
           list-good ends e = raw-one
           list-good (refuses r) e = raw-one
-          list-good (gives p) e = let b = list-short s n h p e in onto (listAt p.from (p.from + p.bytes)) (λ _. omega arith)
+          list-good (gives p) e = let b = list-short s n h p e in onto (list_at p.from (p.from + p.bytes)) (λ _. omega arith)
 
-        raw-good : (a : Answer Attribute) → stepAt s n w.raw ≡ a → Good w g (rawAfter s n w a)
-        unfolding rawAfter
+        raw-good : (a : Answer Attribute) → step_at s n w.raw ≡ a → Good w g (raw_after s n w a)
+        unfolding raw_after
         raw-good ends e = zero-le
         raw-good (refuses r) e = zero-le
         raw-good (gives h) e =
             let k = of-step s n w.raw h e in
-            both (Good w g) _ _ _ (list-good h k (listIn s n h) refl) (alone _ refl (passed-goes h k))
+            both (Good w g) _ _ _ (list-good h k (list_in s n h) refl) (alone _ refl (passed-goes h k))
 
-      by-list : (t : Bool) → w.list.is ≡ t → Good w g (pick t (entryTurn s n look w) (rawTurn s n w))
-      unfolding pick entryTurn rawTurn
+      by-list : (t : Bool) → w.list.is ≡ t → Good w g (pick t (entry_turn s n look w) (raw_turn s n w))
+      unfolding pick entry_turn raw_turn
       by-list true o = entry-good o _ refl
       by-list false o = raw-good o _ refl
 
-      pub step-good : Good w g (smallStep s n look w)
-      unfolding smallStep
+      pub step-good : Good w g (small_step s n look w)
+      unfolding small_step
       step-good = by-list w.list.is refl

@@ -14,17 +14,17 @@ use Rattle.fields.proofs.Answers.{the-given}
 use Rattle.fields.proofs.Opens.{not-true}
 use Rattle.list.specs.Entry.{entry_of}
 use Rattle.list.specs.declared.Entry.{Entry}
-use Rattle.lookup.specs.Lookup.{lookupIn}
-use Rattle.turns.specs.State.{listAt, noKey, part_of as listPart}
+use Rattle.lookup.specs.Lookup.{lookup_in}
+use Rattle.turns.specs.State.{list_at, no_key, part_of as listPart}
 use Rattle.turns.specs.Key.{agrees, key_of}
 use Rattle.turns.specs.declared.Rest.{Rest}
 use Rattle.turns.specs.declared.Key.{Key}
-use Rattle.part.specs.Join.{judgePart, keyFor}
-use Rattle.part.specs.Part.{partFound, partLooked, part_of}
-use Rattle.parts.specs.Parts.{Stepped, lists, stops, cursor, cursorPast, stepAfter, stepPart, stepJoined, stepKeyed, stepEntered, stepIn, Listing, partsAfter, partsRun, partsFrom, parts_in}
+use Rattle.part.specs.Join.{judge_part, key_for}
+use Rattle.part.specs.Part.{part_found, part_looked, part_of}
+use Rattle.parts.specs.Parts.{Stepped, lists, stops, cursor, cursor_past, step_after, step_part, step_joined, step_keyed, step_entered, step_in, Listing, parts_after, parts_run, parts_from, parts_in}
 use Rattle.part.specs.declared.Part.{Part}
 use Rattle.parts.specs.declared.Cursor.{Cursor}
-use Rattle.bound.specs.Run.{Spot, spot, gaveAfter, gaveRun, gaveFrom, gaveIn}
+use Rattle.bound.specs.Run.{Spot, spot, gave_after, gave_run, gave_from, gave_in}
 use Rattle.bound.proofs.Value.{E, E-step, pay-part, pay-last}
 use Rattle.bound.proofs.Facts.{Sized, few, stood}
 use Rattle.bound.proofs.Rising as rising
@@ -38,7 +38,7 @@ module _ (s : List ℕ) (n : RecordNumber) where
 
   -- past it
   abbrev pub past : Rest → Entry → Rest
-  past l e = listAt (l.from + e.length) l.to
+  past l e = list_at (l.from + e.length) l.to
 
   -- the c entries from the front of l up to g agree with the key k
   abbrev pub Run : Key → ℕ → Rest → ℕ → Type 0
@@ -124,7 +124,7 @@ module _ (s : List ℕ) (n : RecordNumber) where
       pub found : ℕ
       pub reads : r ≡ found + 1
       pub few : found ≤ length s / 16
-      pub next : d ≡ cursorPast c e k
+      pub next : d ≡ cursor_past c e k
 
     abbrev Spent : Key → Cursor → Entry → Stepped → Type 0
     Spent k c e (stops a r) = r ≤ length s / 16 + 1
@@ -147,62 +147,62 @@ module _ (s : List ℕ) (n : RecordNumber) where
 
     module _ (look : RecordNumber → Option (List ℕ)) (z : Sized s look) (room : ℕ) where
       -- a part's lookup
-      looked-few : (e : Entry) (place : ℕ) (a : Answer (List ℕ)) → lookupIn s n look e.file place ≡ a → (partLooked s n look e place a).reads ≤ length s / 16
-      unfolding partLooked partFound
+      looked-few : (e : Entry) (place : ℕ) (a : Answer (List ℕ)) → lookup_in s n look e.file place ≡ a → (part_looked s n look e place a).reads ≤ length s / 16
+      unfolding part_looked part_found
       looked-few e place ends q = omega arith
       looked-few e place (refuses r) q = omega arith
       looked-few e place (gives t) q = few s n look z e.file place t q _ _ _
 
       part-few : (e : Entry) (place : ℕ) → (part_of s n look e place).reads ≤ length s / 16
       unfolding part_of
-      part-few e place = looked-few e place (lookupIn s n look e.file place) refl
+      part-few e place = looked-few e place (lookup_in s n look e.file place) refl
 
       module _ (k : Key) where
-        after-spent : (c : Cursor) (e : Entry) (a : Answer Part) (r : ℕ) → r ≤ length s / 16 → Spent k c e (stepAfter (cursorPast c e k) a r)
-        unfolding stepAfter
+        after-spent : (c : Cursor) (e : Entry) (a : Answer Part) (r : ℕ) → r ≤ length s / 16 → Spent k c e (step_after (cursor_past c e k) a r)
+        unfolding step_after
         after-spent c e (gives p) r f = record { found = r; reads = refl; few = f; next = refl }
         after-spent c e ends r f = omega arith
         after-spent c e (refuses x) r f = omega arith
 
-        part-spent : (c : Cursor) (e : Entry) (place : ℕ) → Spent k c e (stepPart (cursorPast c e k) (part_of s n look e place))
-        unfolding stepPart
+        part-spent : (c : Cursor) (e : Entry) (place : ℕ) → Spent k c e (step_part (cursor_past c e k) (part_of s n look e place))
+        unfolding step_part
         part-spent c e place = after-spent c e (part_of s n look e place).answer (part_of s n look e place).reads (part-few e place)
 
-        joined-spent : (i : ℕ) (c : Cursor) (e : Entry) (place : ℕ) (j : Answer Unit) → Spent k c e (stepJoined s n look room i (cursorPast c e k) e place j)
-        unfolding stepJoined
+        joined-spent : (i : ℕ) (c : Cursor) (e : Entry) (place : ℕ) (j : Answer Unit) → Spent k c e (step_joined s n look room i (cursor_past c e k) e place j)
+        unfolding step_joined
         joined-spent i c e place (gives u) = both (Spent k c e) _ _ _ (part-spent c e place) (omega arith)
         joined-spent i c e place ends = omega arith
         joined-spent i c e place (refuses r) = omega arith
 
         joined-fine : (i : ℕ) (c : Cursor) (e : Entry) → here c.list ≡ gives e → (is : k.is ≡ true) (place : ℕ) (j : Answer Unit) → Joins k is e (listPart s c.list) j
-            → Fine k c (stepJoined s n look room i (cursorPast c e k) e place j)
-        unfolding stepJoined
-        joined-fine i c e q is place (gives u) a = both (Fine k c) _ _ _ (fine k c e q a (stepPart (cursorPast c e k) (part_of s n look e place)) (part-spent c e place)) (took-none k c.list 1 (le_refl 1))
+            → Fine k c (step_joined s n look room i (cursor_past c e k) e place j)
+        unfolding step_joined
+        joined-fine i c e q is place (gives u) a = both (Fine k c) _ _ _ (fine k c e q a (step_part (cursor_past c e k) (part_of s n look e place)) (part-spent c e place)) (took-none k c.list 1 (le_refl 1))
         joined-fine i c e q is place ends a = took-none k c.list 1 (le_refl 1)
         joined-fine i c e q is place (refuses r) a = took-none k c.list 1 (le_refl 1)
 
         -- behind the first entry the key stays
         module _ (is : k.is ≡ true) where
-          keyed-fine : (i : ℕ) (c : Cursor) (e : Entry) → here c.list ≡ gives e → (key : Key) → key ≡ k → Fine k c (stepKeyed s n look room i c e (listPart s c.list) key)
-          unfolding stepKeyed
+          keyed-fine : (i : ℕ) (c : Cursor) (e : Entry) → here c.list ≡ gives e → (key : Key) → key ≡ k → Fine k c (step_keyed s n look room i c e (listPart s c.list) key)
+          unfolding step_keyed
           keyed-fine i c e q key h =
-              subst (λ (x : Key). Fine k c (stepKeyed s n look room i c e (listPart s c.list) x)) (sym h)
-              (joined-fine i c e q is c.list.from (judgePart k e (listPart s c.list) n c.list.from) (joins k is e (listPart s c.list) n c.list.from))
+              subst (λ (x : Key). Fine k c (step_keyed s n look room i c e (listPart s c.list) x)) (sym h)
+              (joined-fine i c e q is c.list.from (judge_part k e (listPart s c.list) n c.list.from) (joins k is e (listPart s c.list) n c.list.from))
 
-          entered-fine : (i : ℕ) (c : Cursor) → c.key ≡ k → (a : Answer Entry) → here c.list ≡ a → Fine k c (stepEntered s n look room i c (listPart s c.list) a)
-          unfolding stepEntered
+          entered-fine : (i : ℕ) (c : Cursor) → c.key ≡ k → (a : Answer Entry) → here c.list ≡ a → Fine k c (step_entered s n look room i c (listPart s c.list) a)
+          unfolding step_entered
           entered-fine i c h (gives e) q =
-              keyed-fine i c e q (keyFor c.key e (listPart s c.list)) (subst (λ (x : Key). keyFor x e (listPart s c.list) ≡ k) (sym h) (key-stays k e (listPart s c.list) is))
+              keyed-fine i c e q (key_for c.key e (listPart s c.list)) (subst (λ (x : Key). key_for x e (listPart s c.list) ≡ k) (sym h) (key-stays k e (listPart s c.list) is))
           entered-fine i c h ends q = took-none k c.list 0 (omega arith)
           entered-fine i c h (refuses r) q = took-none k c.list 0 (omega arith)
 
           -- what follows a step
           module _ (on : Cursor → Listing) (gave : Cursor → List Rest) (ih : (d : Cursor) → d.key ≡ k → Took k d.list (on d).reads (gave d)) where
-            onward : (c : Cursor) (e : Entry) (d : Cursor) → d ≡ cursorPast c e k → Took k (past c.list e) (on d).reads (gave d)
+            onward : (c : Cursor) (e : Entry) (d : Cursor) → d ≡ cursor_past c e k → Took k (past c.list e) (on d).reads (gave d)
             onward c e d h = subst (λ (x : Cursor). x.key ≡ k → Took k x.list (on d).reads (gave d)) h (ih d) refl
 
-            after-took : (c : Cursor) (x : Stepped) → Fine k c x → Took k c.list (partsAfter on x).reads (gaveAfter s n look room gave c.list x)
-            unfolding partsAfter gaveAfter
+            after-took : (c : Cursor) (x : Stepped) → Fine k c x → Took k c.list (parts_after on x).reads (gave_after s n look room gave c.list x)
+            unfolding parts_after gave_after
             after-took c (stops a r) f = f
             after-took c (lists p d r) f =
                 let m = f.more in
@@ -216,8 +216,8 @@ module _ (s : List ℕ) (n : RecordNumber) where
                 }
 
             -- the first entry need not agree with its own key
-            after-begun : (c : Cursor) (e : Entry) → here c.list ≡ gives e → (x : Stepped) → Spent k c e x → Begun k c.list e (partsAfter on x).reads (gaveAfter s n look room gave c.list x)
-            unfolding partsAfter gaveAfter
+            after-begun : (c : Cursor) (e : Entry) → here c.list ≡ gives e → (x : Stepped) → Spent k c e x → Begun k c.list e (parts_after on x).reads (gave_after s n look room gave c.list x)
+            unfolding parts_after gave_after
             after-begun c e q (stops a r) h = record { count = 0; end = c.list.from + e.length; run = refl; cost = paid-last c.list e q r h }
             after-begun c e q (lists p d r) m =
                 let t = onward c e d m.next in
@@ -229,33 +229,33 @@ module _ (s : List ℕ) (n : RecordNumber) where
                       (paid-more c.list e q m.found (on d).reads (gave d) t.end m.few t.cost);
                 }
 
-          took-run : (f i : ℕ) (c : Cursor) → c.key ≡ k → Took k c.list (partsRun s n look room f i c).reads (gaveRun s n look room f i c)
-          unfolding partsRun gaveRun stepIn
+          took-run : (f i : ℕ) (c : Cursor) → c.key ≡ k → Took k c.list (parts_run s n look room f i c).reads (gave_run s n look room f i c)
+          unfolding parts_run gave_run step_in
           took-run zero i c h = took-none k c.list 0 (omega arith)
           took-run (suc f) i c h =
-              after-took (partsRun s n look room f (i + 1)) (gaveRun s n look room f (i + 1)) (took-run f (i + 1)) c (stepIn s n look room i c) (entered-fine i c h (here c.list) refl)
+              after-took (parts_run s n look room f (i + 1)) (gave_run s n look room f (i + 1)) (took-run f (i + 1)) c (step_in s n look room i c) (entered-fine i c h (here c.list) refl)
 
       -- the first step, by the item's own entry
       first-spent : (i : ℕ) (l : Rest) (e : Entry) (a : Answer Entry) → a ≡ gives e
-          → Spent (key_of e (listPart s l)) (cursor l noKey) e (stepEntered s n look room i (cursor l noKey) (listPart s l) a)
-      unfolding stepEntered stepKeyed
+          → Spent (key_of e (listPart s l)) (cursor l no_key) e (step_entered s n look room i (cursor l no_key) (listPart s l) a)
+      unfolding step_entered step_keyed
       first-spent i l e a q =
           let k = key_of e (listPart s l) in
-          subst (λ (x : Answer Entry). Spent k (cursor l noKey) e (stepEntered s n look room i (cursor l noKey) (listPart s l) x)) (sym q)
-          (subst (λ (x : Key). Spent k (cursor l noKey) e (stepKeyed s n look room i (cursor l noKey) e (listPart s l) x)) (sym (first_key e (listPart s l)))
-          (joined-spent k i (cursor l noKey) e l.from (judgePart k e (listPart s l) n l.from)))
+          subst (λ (x : Answer Entry). Spent k (cursor l no_key) e (step_entered s n look room i (cursor l no_key) (listPart s l) x)) (sym q)
+          (subst (λ (x : Key). Spent k (cursor l no_key) e (step_keyed s n look room i (cursor l no_key) e (listPart s l) x)) (sym (first_key e (listPart s l)))
+          (joined-spent k i (cursor l no_key) e l.from (judge_part k e (listPart s l) n l.from)))
 
       begun-run : (f i : ℕ) (l : Rest) (e : Entry) → here l ≡ gives e
-          → Begun (key_of e (listPart s l)) l e (partsRun s n look room (suc f) i (cursor l noKey)).reads (gaveRun s n look room (suc f) i (cursor l noKey))
-      unfolding partsRun gaveRun stepIn
+          → Begun (key_of e (listPart s l)) l e (parts_run s n look room (suc f) i (cursor l no_key)).reads (gave_run s n look room (suc f) i (cursor l no_key))
+      unfolding parts_run gave_run step_in
       begun-run f i l e q =
           let k = key_of e (listPart s l) in
           let is = key_set e (listPart s l) in
-          after-begun k is (partsRun s n look room f (i + 1)) (gaveRun s n look room f (i + 1)) (took-run k is f (i + 1)) (cursor l noKey) e q (stepIn s n look room i (cursor l noKey))
+          after-begun k is (parts_run s n look room f (i + 1)) (gave_run s n look room f (i + 1)) (took-run k is f (i + 1)) (cursor l no_key) e q (step_in s n look room i (cursor l no_key))
           (first-spent i l e (here l) q)
 
       -- the parts of an item found by the entry e at the front of l
-      pub begun : (l : Rest) (e : Entry) → l.is ≡ true → here l ≡ gives e → Begun (key_of e (listPart s l)) l e (parts_in s n look room l).reads (gaveIn s n look room l)
-      unfolding parts_in partsFrom gaveIn gaveFrom
+      pub begun : (l : Rest) (e : Entry) → l.is ≡ true → here l ≡ gives e → Begun (key_of e (listPart s l)) l e (parts_in s n look room l).reads (gave_in s n look room l)
+      unfolding parts_in parts_from gave_in gave_from
       begun l e o q =
           subst₂ (λ (x : Listing) (y : List Rest). Begun (key_of e (listPart s l)) l e x.reads y) (yes _ _ _ o refl) (yes _ _ _ o refl) (begun-run (l.to - l.from) 0 l e q)

@@ -3,27 +3,27 @@ use Rattle.std.specs.Prelude.{ℕ, zero, suc, ◌+◌, ◌-◌, List, [], ◌∷
 use Rattle.std.proofs.Math.Option.{Option}
 use Rattle.fields.specs.Pick.{pick}
 use Rattle.fields.specs.Answer.{Answer, gives, ends, refuses, refusal}
-use Rattle.fields.specs.Known.{knownType}
+use Rattle.fields.specs.Known.{known_type}
 use Rattle.fields.specs.Walk.{Turn, stop, go}
-use Rattle.fields.specs.Header.{firstAttribute}
+use Rattle.fields.specs.Header.{first_attribute}
 use Rattle.fields.specs.declared.RecordNumber.{RecordNumber}
 use Rattle.fields.specs.declared.Refusal.{Refusal}
-use Rattle.raw.specs.Step.{stepAt}
+use Rattle.raw.specs.Step.{step_at}
 use Rattle.raw.specs.Find as find
 use Rattle.raw.specs.declared.Attribute.{Attribute}
 use Rattle.list.specs.Entry.{entry_of}
 use Rattle.list.specs.declared.Entry.{Entry}
-use Rattle.lookup.specs.Lookup.{lookupIn}
-use Rattle.turns.specs.State.{noKey, part_of as listPart}
+use Rattle.lookup.specs.Lookup.{lookup_in}
+use Rattle.turns.specs.State.{no_key, part_of as listPart}
 use Rattle.items.specs.Start.{fresh_of}
 use Rattle.turns.specs.Key.{agrees}
-use Rattle.items.specs.Items.{Left, going, measure, turn, nextIn}
+use Rattle.items.specs.Items.{Left, going, measure, turn, next_in}
 use Rattle.turns.specs.declared.State.{State}
 use Rattle.turns.specs.declared.Item.{Item}
 use Rattle.turns.specs.declared.Key.{Key}
 use Rattle.turns.specs.declared.Rest.{Rest}
-use Rattle.part.specs.Join.{judgePart, keyFor}
-use Rattle.parts.specs.Parts.{Stepped, lists, stops, cursor, stepIn}
+use Rattle.part.specs.Join.{judge_part, key_for}
+use Rattle.parts.specs.Parts.{Stepped, lists, stops, cursor, step_in}
 use Rattle.parts.specs.declared.Cursor.{Cursor}
 
 -- one read. An entry is told by its place and its list's end: the rest of its list from it on
@@ -43,13 +43,13 @@ onward on (stop a) = []
 onward on (go t) = on t
 
 -- the trail of at most n turns of a walk, where r says what a turn reads
-unfoldable pub trailRun : {S A : Type 0} → (S → Turn S A) → (S → List Read) → ℕ → S → List Read
-trailRun f r zero s = []
-trailRun f r (suc n) s = r s ++ onward (trailRun f r n) (f s)
+unfoldable pub trail_run : {S A : Type 0} → (S → Turn S A) → (S → List Read) → ℕ → S → List Read
+trail_run f r zero s = []
+trail_run f r (suc n) s = r s ++ onward (trail_run f r n) (f s)
 
 -- of as many turns as the walk makes
 unfoldable pub trail : {S A : Type 0} → (S → ℕ) → (S → Turn S A) → (S → List Read) → S → List Read
-trail μ f r s = trailRun f r (suc (μ s)) s
+trail μ f r s = trail_run f r (suc (μ s)) s
 
 -- a search reads an attribute where a step gives one
 unfoldable pub seen : RecordNumber → Answer Attribute → List Read
@@ -57,97 +57,97 @@ seen n (gives h) = sought n h ∷ []
 seen n ends = []
 seen n (refuses r) = []
 
-unfoldable pub findTrail : List ℕ → RecordNumber → ℕ → ℕ → Refusal → List Read
-findTrail s n ty instance miss =
-    trail (find.left s n ty instance miss) (find.turn s n ty instance miss) (λ p. seen n (stepAt s n p.at)) (find.place (firstAttribute s) 0)
+unfoldable pub find_trail : List ℕ → RecordNumber → ℕ → ℕ → Refusal → List Read
+find_trail s n ty instance miss =
+    trail (find.left s n ty instance miss) (find.turn s n ty instance miss) (λ p. seen n (step_at s n p.at)) (find.place (first_attribute s) 0)
 
 -- the raw walk reads an attribute where a step gives one
-unfoldable pub rawTrail : Answer Attribute → List Read
-rawTrail (gives h) = own h ∷ []
-rawTrail ends = []
-rawTrail (refuses r) = []
+unfoldable pub raw_trail : Answer Attribute → List Read
+raw_trail (gives h) = own h ∷ []
+raw_trail ends = []
+raw_trail (refuses r) = []
 
 module _ (s : List ℕ) (n : RecordNumber) (look : RecordNumber → Option (List ℕ)) where
   -- the search that an entry comes to, where its record is found
-  unfoldable pub lookedTrail : Entry → ℕ → Answer (List ℕ) → List Read
-  lookedTrail e place (gives t) = findTrail t e.file e.ty e.instance (refusal 18 n place)
-  lookedTrail e place ends = []
-  lookedTrail e place (refuses r) = []
+  unfoldable pub looked_trail : Entry → ℕ → Answer (List ℕ) → List Read
+  looked_trail e place (gives t) = find_trail t e.file e.ty e.instance (refusal 18 n place)
+  looked_trail e place ends = []
+  looked_trail e place (refuses r) = []
 
-  unfoldable pub lookupTrail : Entry → ℕ → List Read
-  lookupTrail e place = lookedTrail e place (lookupIn s n look e.file place)
+  unfoldable pub lookup_trail : Entry → ℕ → List Read
+  lookup_trail e place = looked_trail e place (lookup_in s n look e.file place)
 
   -- an entry of the walk, and its search: none behind 6, for the base record's own, or where it agrees with the key
-  unfoldable pub searchTrail : List ℕ → State → Entry → List Read
-  searchTrail part w e =
-      pick (knownType e.ty)
+  unfoldable pub search_trail : List ℕ → State → Entry → List Read
+  search_trail part w e =
+      pick (known_type e.ty)
       (pick (eqb e.file.0 n.0) []
       (pick (agrees w.key e part) []
-      (lookupTrail e w.list.from)))
+      (lookup_trail e w.list.from)))
       []
 
-  unfoldable pub entryTrail : List ℕ → State → Answer Entry → List Read
-  entryTrail part w (gives e) = entry w.list e ∷ searchTrail part w e
-  entryTrail part w ends = []
-  entryTrail part w (refuses r) = []
+  unfoldable pub entry_trail : List ℕ → State → Answer Entry → List Read
+  entry_trail part w (gives e) = entry w.list e ∷ search_trail part w e
+  entry_trail part w ends = []
+  entry_trail part w (refuses r) = []
 
   -- a small step of the walk
-  unfoldable pub stepTrail : State → List Read
-  stepTrail w =
+  unfoldable pub step_trail : State → List Read
+  step_trail w =
       pick w.list.is
-      (entryTrail (listPart s w.list) w (entry_of (listPart s w.list) n w.list.from))
-      (rawTrail (stepAt s n w.raw))
+      (entry_trail (listPart s w.list) w (entry_of (listPart s w.list) n w.list.from))
+      (raw_trail (step_at s n w.raw))
 
   -- a call of the walk
-  unfoldable pub nextTrail : State → List Read
-  nextTrail w = trail (λ x. measure s x.at) (turn s n look) (λ x. stepTrail x.at) (going w 0)
+  unfoldable pub next_trail : State → List Read
+  next_trail w = trail (λ x. measure s x.at) (turn s n look) (λ x. step_trail x.at) (going w 0)
 
   module _ (room : ℕ) where
     -- the search for a part: none where the entry does not go on with the stream, or there is no room
-    unfoldable pub joinTrail : ℕ → Entry → ℕ → Answer Unit → List Read
-    joinTrail k e place (gives u) = pick (ltb k room) (lookupTrail e place) []
-    joinTrail k e place ends = []
-    joinTrail k e place (refuses r) = []
+    unfoldable pub join_trail : ℕ → Entry → ℕ → Answer Unit → List Read
+    join_trail k e place (gives u) = pick (ltb k room) (lookup_trail e place) []
+    join_trail k e place ends = []
+    join_trail k e place (refuses r) = []
 
-    unfoldable pub keyedTrail : ℕ → Cursor → Entry → List ℕ → Key → List Read
-    keyedTrail k c e part key = joined c.list e ∷ joinTrail k e c.list.from (judgePart key e part n c.list.from)
+    unfoldable pub keyed_trail : ℕ → Cursor → Entry → List ℕ → Key → List Read
+    keyed_trail k c e part key = joined c.list e ∷ join_trail k e c.list.from (judge_part key e part n c.list.from)
 
-    unfoldable pub enteredTrail : ℕ → Cursor → List ℕ → Answer Entry → List Read
-    enteredTrail k c part (gives e) = keyedTrail k c e part (keyFor c.key e part)
-    enteredTrail k c part ends = []
-    enteredTrail k c part (refuses r) = []
+    unfoldable pub entered_trail : ℕ → Cursor → List ℕ → Answer Entry → List Read
+    entered_trail k c part (gives e) = keyed_trail k c e part (key_for c.key e part)
+    entered_trail k c part ends = []
+    entered_trail k c part (refuses r) = []
 
     -- a step of the parts, after k of them
-    unfoldable pub partTrail : ℕ → Cursor → List Read
-    partTrail k c = enteredTrail k c (listPart s c.list) (entry_of (listPart s c.list) n c.list.from)
+    unfoldable pub part_trail : ℕ → Cursor → List Read
+    part_trail k c = entered_trail k c (listPart s c.list) (entry_of (listPart s c.list) n c.list.from)
 
-    unfoldable pub partsOnward : (Cursor → List Read) → Stepped → List Read
-    partsOnward on (stops a k) = []
-    partsOnward on (lists p c k) = on c
+    unfoldable pub parts_onward : (Cursor → List Read) → Stepped → List Read
+    parts_onward on (stops a k) = []
+    parts_onward on (lists p c k) = on c
 
-    unfoldable pub partsTrailRun : ℕ → ℕ → Cursor → List Read
-    partsTrailRun zero k c = []
-    partsTrailRun (suc f) k c = partTrail k c ++ partsOnward (partsTrailRun f (k + 1)) (stepIn s n look room k c)
+    unfoldable pub parts_trail_run : ℕ → ℕ → Cursor → List Read
+    parts_trail_run zero k c = []
+    parts_trail_run (suc f) k c = part_trail k c ++ parts_onward (parts_trail_run f (k + 1)) (step_in s n look room k c)
 
     -- the parts of an item
-    unfoldable pub partsTrail : Rest → List Read
-    partsTrail l = pick l.is (partsTrailRun (suc (l.to - l.from)) 0 (cursor l noKey)) []
+    unfoldable pub parts_trail : Rest → List Read
+    parts_trail l = pick l.is (parts_trail_run (suc (l.to - l.from)) 0 (cursor l no_key)) []
 
-    unfoldable pub trailAfter : (State → List Read) → State → Answer Item → List Read
-    trailAfter on w (gives i) = partsTrail i.rest ++ on w
-    trailAfter on w ends = []
-    trailAfter on w (refuses r) = []
+    unfoldable pub trail_after : (State → List Read) → State → Answer Item → List Read
+    trail_after on w (gives i) = parts_trail i.rest ++ on w
+    trail_after on w ends = []
+    trail_after on w (refuses r) = []
 
-    unfoldable pub trailNext : (State → List Read) → State → Left → List Read
-    trailNext on w l = nextTrail w ++ trailAfter on l.left l.answer
+    unfoldable pub trail_next : (State → List Read) → State → Left → List Read
+    trail_next on w l = next_trail w ++ trail_after on l.left l.answer
 
     -- at most f calls of the walk
-    unfoldable pub trailFrom : ℕ → State → List Read
-    trailFrom zero w = []
-    trailFrom (suc f) w = trailNext (trailFrom f) w (nextIn s n look w)
+    unfoldable pub trail_from : ℕ → State → List Read
+    trail_from zero w = []
+    trail_from (suc f) w = trail_next (trail_from f) w (next_in s n look w)
 
-    unfoldable pub trailOf : List Read
-    trailOf = trailFrom (suc (measure s (fresh_of s))) (fresh_of s)
+    unfoldable pub trail_of : List Read
+    trail_of = trail_from (suc (measure s (fresh_of s))) (fresh_of s)
 
 -- the attributes of the base record that the walk itself read, lookups aside
 unfoldable pub own_of : List Read → List Attribute

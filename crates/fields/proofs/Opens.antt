@@ -10,7 +10,7 @@ use lib.ListN.{length, take, length-take}
 use borrow.Author.Tests.{eqb-true, eq-eqb, ltb-false}
 use Rattle.fields.specs.Pick.{pick}
 use Rattle.fields.specs.Answer.{gives}
-use Rattle.fields.specs.Open.{same, FILE, isFile, goodLength, openOf, open_in}
+use Rattle.fields.specs.Open.{same, FILE, is_file, good_length, open_of, open_in}
 use Rattle.fields.specs.declared.RecordNumber.{RecordNumber}
 use Rattle.fields.proofs.Cases.{not_first, not-second}
 use Rattle.fields.proofs.Answers.{refused-given}
@@ -46,8 +46,8 @@ pub same_test : (r : Bool) (xs ys : List ℕ) → (r ≡ true → xs ≡ ys) →
 same_test true xs ys f g = sym (subst (λ (zs : List ℕ). same xs zs ≡ true) (f refl) (same_of xs))
 same_test false xs ys f g = sym (is_false _ (λ e. not-true (g (same-is xs ys e))))
 
-pub short-file : (s : List ℕ) → length s < 4 → isFile s ≡ false
-unfolding isFile
+pub short-file : (s : List ℕ) → length s < 4 → is_file s ≡ false
+unfolding is_file
 short-file s h = is_false _ (λ e. omega (arith, ap length (same-is (take 4 s) FILE e), length-take 4 s))
 
 -- "record length under 64, over 4,096": a record that passes has 64 to 4,096 bytes
@@ -55,12 +55,12 @@ pub record Sized (m : ℕ) : Type 0 where
   pub least : 64 ≤ m
   pub most : m ≤ 4096
 
-pub good_sized : (m : ℕ) → goodLength m ≡ true → Sized m
-unfolding goodLength
+pub good_sized : (m : ℕ) → good_length m ≡ true → Sized m
+unfolding good_length
 good_sized m e = record { least = grind (arith, nat_tests); most = grind (arith, nat_tests) }
 
-pub opened_sized : (s : List ℕ) (n : RecordNumber) {u : Unit} → openOf s n ≡ gives u → Sized (length s)
-unfolding openOf
+pub opened_sized : (s : List ℕ) (n : RecordNumber) {u : Unit} → open_of s n ≡ gives u → Sized (length s)
+unfolding open_of
 opened_sized s n e = good_sized (length s) (not-second _ _ _ _ e refused-given).0
 
 pub opened_in_sized : (s : List ℕ) (n : RecordNumber) (size : ℕ) {u : Unit} → open_in s n size ≡ gives u → Sized (length s)

@@ -4,20 +4,20 @@ use Rattle.std.specs.Int.Bits.{bit_and}
 use Rattle.fields.specs.Pick.{pick}
 use Rattle.fields.specs.Le.{le}
 use Rattle.fields.specs.Answer.{Answer, gives, refuses, ◌⟫◌}
-use Rattle.fields.specs.Open.{openOf}
+use Rattle.fields.specs.Open.{open_of}
 use Rattle.fields.specs.declared.RecordNumber.{RecordNumber}
 use Rattle.fields.specs.declared.RecordHeader.{RecordHeader}
 use Rattle.fields.specs.declared.HeaderRead.{HeaderRead}
 use Rattle.fields.specs.declared.HeaderRead.TheVariants as header
 
 -- the answer of the header call, case by case
-abbrev pub toldHeader : HeaderRead → Answer RecordHeader
-toldHeader (header.Fields h) = gives h
-toldHeader (header.Refused r) = refuses r
+abbrev pub told_header : HeaderRead → Answer RecordHeader
+told_header (header.Fields h) = gives h
+told_header (header.Refused r) = refuses r
 
 -- "sequence u16 at 16, links u16 at 18, first attribute offset u16 at 20, flags u16 at 22, used size u32 at 24, allocated u32 at 28"
-unfoldable pub recordFields : List ℕ → RecordHeader
-recordFields s = record {
+unfoldable pub record_fields : List ℕ → RecordHeader
+record_fields s = record {
   sequence = le 2 s 16;
   links = le 2 s 18;
   first = le 2 s 20;
@@ -27,9 +27,9 @@ recordFields s = record {
 }
 
 -- they stand behind checks 1 and 2
-unfoldable pub headerOf : List ℕ → RecordNumber → Answer RecordHeader
-headerOf s n = openOf s n ⟫ λ _. gives (recordFields s)
+unfoldable pub header_of : List ℕ → RecordNumber → Answer RecordHeader
+header_of s n = open_of s n ⟫ λ _. gives (record_fields s)
 
 -- "It starts at the first attribute offset"; 0 for bytes that end before that field
-unfoldable pub firstAttribute : List ℕ → ℕ
-firstAttribute s = pick (ltb (length s) 22) 0 (le 2 s 20)
+unfoldable pub first_attribute : List ℕ → ℕ
+first_attribute s = pick (ltb (length s) 22) 0 (le 2 s 20)

@@ -4,9 +4,9 @@
 pub mod inner;
 
 ghost use Rattle.std.specs.Prelude.{◌≡◌};
-ghost use Rattle.fields.specs.Known.{knownType, attributeFlags};
-ghost use Rattle.fields.specs.Open.{toldOpened, goodLength, isFile, checkFile, openOf, open_in};
-ghost use Rattle.fields.specs.Header.{toldHeader, headerOf, firstAttribute};
+ghost use Rattle.fields.specs.Known.{known_type, attribute_flags};
+ghost use Rattle.fields.specs.Open.{told_opened, good_length, is_file, check_file, open_of, open_in};
+ghost use Rattle.fields.specs.Header.{told_header, header_of, first_attribute};
 
 use inner::{record_fields, u16_at};
 
@@ -52,9 +52,9 @@ pub enum HeaderRead {
 }
 
 // Whether a type is one of the known ones.
-#[tactic(auto, unfolding(crate::specs::Known::knownType))]
+#[tactic(auto, unfolding(crate::specs::Known::known_type))]
 pub fn known_type(ty: u32) -> bool
-    ensures { result ≡ knownType ty }
+    ensures { result ≡ known_type ty }
 {
     if ty == 0xFFFF_FFFF {
         return true;
@@ -69,17 +69,17 @@ pub fn known_type(ty: u32) -> bool
 }
 
 // An attribute's flags, kept in the three bits that have a meaning.
-#[tactic(auto, unfolding(crate::specs::Known::attributeFlags))]
+#[tactic(auto, unfolding(crate::specs::Known::attribute_flags))]
 pub fn attribute_flags(flags: u16) -> u16
-    ensures { result ≡ attributeFlags flags }
+    ensures { result ≡ attribute_flags flags }
 {
     flags & 0xC001
 }
 
 // Whether a record may have this length. A table's record size passes the same test.
-#[tactic(auto, unfolding(crate::specs::Open::goodLength))]
+#[tactic(auto, unfolding(crate::specs::Open::good_length))]
 pub fn good_length(m: usize) -> bool
-    ensures { result ≡ goodLength m }
+    ensures { result ≡ good_length m }
 {
     if m < 64 {
         return false;
@@ -91,9 +91,9 @@ pub fn good_length(m: usize) -> bool
 }
 
 // Whether the first four bytes are FILE.
-#[tactic(auto, unfolding(crate::specs::Open::isFile, crate::specs::Open::same))]
+#[tactic(auto, unfolding(crate::specs::Open::is_file, crate::specs::Open::same))]
 pub fn is_file(s: &[u8]) -> bool
-    ensures { result ≡ isFile s.now }
+    ensures { result ≡ is_file s.now }
 {
     if s.len() < 4 {
         return false;
@@ -102,9 +102,9 @@ pub fn is_file(s: &[u8]) -> bool
 }
 
 // Check 2, of the base record and of a looked-up one alike.
-#[tactic(auto, unfolding(crate::specs::Open::checkFile))]
+#[tactic(auto, unfolding(crate::specs::Open::check_file))]
 pub fn check_file(s: &[u8], number: RecordNumber) -> Opened
-    ensures { toldOpened result ≡ checkFile s.now number }
+    ensures { told_opened result ≡ check_file s.now number }
 {
     if is_file(s) {
         return Opened::Passed;
@@ -117,9 +117,9 @@ pub fn check_file(s: &[u8], number: RecordNumber) -> Opened
 }
 
 // Checks 1 and 2 of a record that comes with no table.
-#[tactic(auto, unfolding(crate::specs::Open::openOf))]
+#[tactic(auto, unfolding(crate::specs::Open::open_of))]
 pub fn opening(s: &[u8], number: RecordNumber) -> Opened
-    ensures { toldOpened result ≡ openOf s.now number }
+    ensures { told_opened result ≡ open_of s.now number }
 {
     if good_length(s.len()) {
         return check_file(s, number);
@@ -134,7 +134,7 @@ pub fn opening(s: &[u8], number: RecordNumber) -> Opened
 // Checks 1 and 2 of a record that comes with a table of this record size.
 #[tactic(auto, unfolding(crate::specs::Open::open_in))]
 pub fn opening_in(s: &[u8], number: RecordNumber, size: usize) -> Opened
-    ensures { toldOpened result ≡ open_in s.now number size }
+    ensures { told_opened result ≡ open_in s.now number size }
 {
     if s.len() == size {
         return opening(s, number);
@@ -147,9 +147,9 @@ pub fn opening_in(s: &[u8], number: RecordNumber, size: usize) -> Opened
 }
 
 // Where the raw walk starts; 0 where the bytes end before that field.
-#[tactic(auto, unfolding(crate::specs::Header::firstAttribute))]
+#[tactic(auto, unfolding(crate::specs::Header::first_attribute))]
 pub fn first_attribute(s: &[u8]) -> usize
-    ensures { result ≡ firstAttribute s.now }
+    ensures { result ≡ first_attribute s.now }
 {
     if s.len() < 22 {
         return 0;
@@ -158,9 +158,9 @@ pub fn first_attribute(s: &[u8]) -> usize
 }
 
 // The record's header fields, behind checks 1 and 2.
-#[tactic(auto, using(crate::proofs::Opens::opened_sized), unfolding(crate::specs::Header::headerOf))]
+#[tactic(auto, using(crate::proofs::Opens::opened_sized), unfolding(crate::specs::Header::header_of))]
 pub fn header(s: &[u8], number: RecordNumber) -> HeaderRead
-    ensures { toldHeader result ≡ headerOf s.now number }
+    ensures { told_header result ≡ header_of s.now number }
 {
     let o = opening(s, number);
     match o {

@@ -1,14 +1,14 @@
 // An item's line and the numbers of its part lines, for callers that walk a table that passed its check.
 ghost use Rattle.std.specs.Prelude.{◌≡◌, ◌++◌, ◌+◌, ◌*◌, ◌≤◌, ◌<◌, eqb, length, take};
 ghost use Rattle.fields.specs.Pick.{pick};
-ghost use Rattle.values.specs.Span.{toldSpanned};
-ghost use Rattle.values.specs.Value.{toldValued};
-ghost use Rattle.table.specs.Held.{recordOf};
+ghost use Rattle.values.specs.Span.{told_spanned};
+ghost use Rattle.values.specs.Value.{told_valued};
+ghost use Rattle.table.specs.Held.{record_of};
 ghost use Rattle.turns.specs.State.{Ready, Lies};
-ghost use Rattle.parts.specs.Parts.{partsFrom, parts_in};
+ghost use Rattle.parts.specs.Parts.{parts_from, parts_in};
 ghost use Rattle.text.specs.Put.{Put};
-ghost use Rattle.line.specs.Lines.{partNumbers};
-ghost use Rattle.gather.specs.Gather.{nameFor, valueFor, partsFor, itemLine, Gathers};
+ghost use Rattle.line.specs.Lines.{part_numbers};
+ghost use Rattle.gather.specs.Gather.{name_for, value_for, parts_for, item_line, Gathers};
 
 use crate::Lined;
 use fields::RecordNumber;
@@ -36,8 +36,8 @@ fn contents_of<'a>(
     i: Item,
 ) -> Contents
     requires { Ready base.now t.now h }
-    ensures name { toldSpanned result.name ≡ nameFor base.now number (recordOf t.now) i }
-    ensures value { toldValued result.value ≡ valueFor base.now number (recordOf t.now) i }
+    ensures name { told_spanned result.name ≡ name_for base.now number (record_of t.now) i }
+    ensures value { told_valued result.value ≡ value_for base.now number (record_of t.now) i }
 {
     let file = i.file;
     let attribute = i.attribute;
@@ -61,7 +61,7 @@ fn contents_of<'a>(
 // The five numbers of a part's line, behind those of the k parts before it.
 fn keep(numbers: &mut [u64], k: usize, p: Part)
     requires { 5 * k + 5 ≤ length numbers.old }
-    ensures { (take (5 * (k + 1)) numbers.new ≡ take (5 * k) numbers.old ++ partNumbers p) × (length numbers.new ≡ length numbers.old) }
+    ensures { (take (5 * (k + 1)) numbers.new ≡ take (5 * k) numbers.old ++ part_numbers p) × (length numbers.new ≡ length numbers.old) }
 {
     let at = 5 * k;
     let file = p.file;
@@ -96,7 +96,7 @@ fn gather<'a>(
     requires ready { Ready base.now t.now h }
     requires from_le_to { (l.from ≤ l.to) × (l.to ≤ length base.now) }
     requires in_bounds { 785 ≤ length numbers.old }
-    ensures gathers { Gathers (partsFrom base.now number (recordOf t.now) 157 l) numbers.new result }
+    ensures gathers { Gathers (parts_from base.now number (record_of t.now) 157 l) numbers.new result }
     ensures numbers_len_unchanged { (length numbers.new ≡ length numbers.old) × ((result.reads ≤ 1052929) × (result.count ≤ 157)) }
 {
     let mut count: usize = 0;
@@ -141,7 +141,7 @@ fn gathered<'a>(
     requires ready { Ready base.now t.now h }
     requires lies { Lies (length base.now) l }
     requires in_bounds { 785 ≤ length numbers.old }
-    ensures gathers { Gathers (parts_in base.now number (recordOf t.now) 157 l) numbers.new result }
+    ensures gathers { Gathers (parts_in base.now number (record_of t.now) 157 l) numbers.new result }
     ensures numbers_len_unchanged { (length numbers.new ≡ length numbers.old) × ((result.reads ≤ 1052929) × (result.count ≤ 157)) }
 {
     if l.is {
@@ -170,8 +170,8 @@ pub fn item_line<'a>(
     requires ready { Ready base.now t.now h }
     requires lies { Lies (length base.now) i.rest }
     requires in_bounds { (785 ≤ length numbers.old) × (at + 256 ≤ length out.old) }
-    ensures line { Put out.old at out.new result.end (itemLine base.now number (recordOf t.now) i) 256 }
-    ensures parts { Gathers (partsFor base.now number (recordOf t.now) i) numbers.new result.parts }
+    ensures line { Put out.old at out.new result.end (item_line base.now number (record_of t.now) i) 256 }
+    ensures parts { Gathers (parts_for base.now number (record_of t.now) i) numbers.new result.parts }
     ensures few { (length numbers.new ≡ length numbers.old) × ((result.parts.reads ≤ 1052929) × (result.parts.count ≤ 157)) }
 {
     let rest = i.rest;

@@ -11,8 +11,8 @@ use Rattle.fields.specs.Answer.{Answer, gives, ends, refuses}
 use Rattle.fields.specs.declared.RecordNumber.{RecordNumber}
 use Rattle.fields.proofs.Cases.{both}
 use Rattle.fields.proofs.Opens.{not-true}
-use Rattle.raw.specs.Step.{stepAt}
-use Rattle.values.specs.Value.{listIn}
+use Rattle.raw.specs.Step.{step_at}
+use Rattle.values.specs.Value.{list_in}
 use Rattle.raw.specs.declared.Attribute.{Attribute}
 use Rattle.values.specs.declared.Span.{Span}
 use Rattle.raw.proofs.Given.{Given, of-step, inside}
@@ -21,8 +21,8 @@ use Rattle.list.specs.Entry.{entry_of}
 use Rattle.list.specs.declared.Entry.{Entry}
 use Rattle.list.proofs.Given as entries
 use Rattle.turns.specs.State.{part_of, Lies}
-use Rattle.turns.specs.Turn.{Small, passes, answers, closed, pastWith, passed, foundTurn, soughtTurn, lookedTurn, givenTurn, entryAfter, entryTurn, listTurn, rawAfter, rawTurn}
-use Rattle.items.specs.Items.{smallStep, measure}
+use Rattle.turns.specs.Turn.{Small, passes, answers, closed, past_with, passed, found_turn, sought_turn, looked_turn, given_turn, entry_after, entry_turn, list_turn, raw_after, raw_turn}
+use Rattle.items.specs.Items.{small_step, measure}
 use Rattle.turns.specs.declared.State.{State}
 use Rattle.turns.specs.declared.Rest.{Rest}
 use Rattle.turns.specs.declared.Key.{Key}
@@ -51,7 +51,7 @@ module _ (s : List ℕ) where
   unlisted v l e = record { order = λ t. absurd (not-true (subst (λ (b : Bool). b ≡ true) e t)); most = λ t. absurd (not-true (subst (λ (b : Bool). b ≡ true) e t)) }
 
   -- past an entry of the open list
-  past-sinks : (w : State) (e : Entry) (k : Key) → w.list.is ≡ true → entries.Given (part_of s w.list) e → Sinks w (pastWith w e k)
+  past-sinks : (w : State) (e : Entry) (k : Key) → w.list.is ≡ true → entries.Given (part_of s w.list) e → Sinks w (past_with w e k)
   unfolding measure pick
   past-sinks w e k l g =
       let i = entry-inside s w.list e g in
@@ -62,21 +62,21 @@ module _ (s : List ℕ) where
       }
 
   module _ (n : RecordNumber) (look : RecordNumber → Option (List ℕ)) (w : State) where
-    module _ (part : List ℕ) (e : Entry) (sinks : (k : Key) → Sinks w (pastWith w e k)) where
-      found-fair : (a : Answer Attribute) (k : ℕ) → Fair w (foundTurn part w e a k)
-      unfolding foundTurn
+    module _ (part : List ℕ) (e : Entry) (sinks : (k : Key) → Sinks w (past_with w e k)) where
+      found-fair : (a : Answer Attribute) (k : ℕ) → Fair w (found_turn part w e a k)
+      unfolding found_turn
       found-fair ends k = stays (sinks _)
       found-fair (refuses r) k = stays (sinks _)
       found-fair (gives h) k = both (Fair w) h.resident _ _ (sinks _) (sinks _)
 
-      looked-fair : (a : Answer (List ℕ)) → Fair w (lookedTurn s n look part w e a)
-      unfolding lookedTurn soughtTurn
+      looked-fair : (a : Answer (List ℕ)) → Fair w (looked_turn s n look part w e a)
+      unfolding looked_turn sought_turn
       looked-fair ends = stays (sinks _)
       looked-fair (refuses r) = stays (sinks _)
       looked-fair (gives t) = found-fair _ _
 
-      given-fair : Fair w (givenTurn s n look part w e)
-      unfolding givenTurn
+      given-fair : Fair w (given_turn s n look part w e)
+      unfolding given_turn
       given-fair =
           both (Fair w) _ _ _
           (both (Fair w) _ _ _ (sinks _) (both (Fair w) _ _ _ (sinks _) (looked-fair _)))
@@ -87,8 +87,8 @@ module _ (s : List ℕ) where
     unfolding measure pick
     closed-sinks l = record { less = rw l (omega arith); lies = λ m y. unlisted w _ refl }
 
-    entry-fair : w.list.is ≡ true → (a : Answer Entry) → entry_of (part_of s w.list) n w.list.from ≡ a → Fair w (entryAfter s n look (part_of s w.list) w a)
-    unfolding entryAfter
+    entry-fair : w.list.is ≡ true → (a : Answer Entry) → entry_of (part_of s w.list) n w.list.from ≡ a → Fair w (entry_after s n look (part_of s w.list) w a)
+    unfolding entry_after
     entry-fair l ends e = closed-sinks l
     entry-fair l (refuses r) e = record { most = omega arith; lies = λ m y. y }
     entry-fair l (gives x) e = given-fair (part_of s w.list) x (λ k. past-sinks w x k l (entries.given (part_of s w.list) n w.list.from x e))
@@ -102,8 +102,8 @@ module _ (s : List ℕ) where
     unfolding measure pick
     passed-sinks h l g = record { less = rw l (let x = g.least in let z = g.most in omega arith); lies = λ m y. unlisted w _ refl }
 
-    list-fair : (h : Attribute) → w.list.is ≡ false → Given s w.raw h → (a : Answer Span) → listIn s n h ≡ a → Fair w (listTurn w h a)
-    unfolding listTurn measure pick
+    list-fair : (h : Attribute) → w.list.is ≡ false → Given s w.raw h → (a : Answer Span) → list_in s n h ≡ a → Fair w (list_turn w h a)
+    unfolding list_turn measure pick
     list-fair h l g ends e = stays (passed-sinks h l g)
     list-fair h l g (refuses r) e = stays (passed-sinks h l g)
     list-fair h l g (gives p) e =
@@ -113,19 +113,19 @@ module _ (s : List ℕ) where
           lies = λ m y. record { order = λ t. omega arith; most = λ t. list-fits s n h (inside g m) p e };
         }
 
-    raw-fair : w.list.is ≡ false → (a : Answer Attribute) → stepAt s n w.raw ≡ a → Fair w (rawAfter s n w a)
-    unfolding rawAfter
+    raw-fair : w.list.is ≡ false → (a : Answer Attribute) → step_at s n w.raw ≡ a → Fair w (raw_after s n w a)
+    unfolding raw_after
     raw-fair l ends e = closed-stays l
     raw-fair l (refuses r) e = closed-stays l
     raw-fair l (gives h) e =
         let g = of-step s n w.raw h e in
-        both (Fair w) _ _ _ (list-fair h l g (listIn s n h) refl) (passed-sinks h l g)
+        both (Fair w) _ _ _ (list-fair h l g (list_in s n h) refl) (passed-sinks h l g)
 
-    by-list : (t : Bool) → w.list.is ≡ t → Fair w (pick t (entryTurn s n look w) (rawTurn s n w))
-    unfolding pick entryTurn rawTurn
+    by-list : (t : Bool) → w.list.is ≡ t → Fair w (pick t (entry_turn s n look w) (raw_turn s n w))
+    unfolding pick entry_turn raw_turn
     by-list true l = entry-fair l _ refl
     by-list false l = raw-fair l _ refl
 
-    pub fair : Fair w (smallStep s n look w)
-    unfolding smallStep
+    pub fair : Fair w (small_step s n look w)
+    unfolding small_step
     fair = by-list w.list.is refl

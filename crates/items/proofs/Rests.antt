@@ -7,17 +7,17 @@ use Rattle.fields.specs.Answer.{Answer, gives, ends, refuses}
 use Rattle.fields.specs.declared.RecordNumber.{RecordNumber}
 use Rattle.fields.proofs.Cases.{both}
 use Rattle.fields.proofs.Opens.{not-true}
-use Rattle.values.specs.Value.{listIn}
+use Rattle.values.specs.Value.{list_in}
 use Rattle.raw.specs.declared.Attribute.{Attribute}
 use Rattle.values.specs.declared.Span.{Span}
 use Rattle.list.specs.declared.Entry.{Entry}
-use Rattle.turns.specs.State.{noList, Lies}
-use Rattle.turns.specs.Turn.{Small, passes, answers, foundTurn, soughtTurn, lookedTurn, givenTurn, entryAfter, entryTurn, listTurn, rawAfter, rawTurn}
-use Rattle.items.specs.Items.{smallStep}
+use Rattle.turns.specs.State.{no_list, Lies}
+use Rattle.turns.specs.Turn.{Small, passes, answers, found_turn, sought_turn, looked_turn, given_turn, entry_after, entry_turn, list_turn, raw_after, raw_turn}
+use Rattle.items.specs.Items.{small_step}
 use Rattle.turns.specs.declared.State.{State}
 
 module _ (s : List ℕ) where
-  pub no-list-lies : Lies (length s) noList
+  pub no-list-lies : Lies (length s) no_list
   no-list-lies = record { order = λ t. absurd (not-true t); most = λ t. absurd (not-true t) }
 
   abbrev pub Rested : State → Small → Type 0
@@ -27,36 +27,36 @@ module _ (s : List ℕ) where
   Rested w (answers (refuses r) v k) = Unit {0}
 
   module _ (n : RecordNumber) (look : RecordNumber → Option (List ℕ)) (w : State) where
-    found-rested : (part : List ℕ) (e : Entry) (a : Answer Attribute) (k : ℕ) → Rested w (foundTurn part w e a k)
-    unfolding foundTurn
+    found-rested : (part : List ℕ) (e : Entry) (a : Answer Attribute) (k : ℕ) → Rested w (found_turn part w e a k)
+    unfolding found_turn
     found-rested part e ends k = tt
     found-rested part e (refuses r) k = tt
     found-rested part e (gives h) k = both (Rested w) h.resident _ _ (λ y. no-list-lies) (λ y. y)
 
-    looked-rested : (part : List ℕ) (e : Entry) (a : Answer (List ℕ)) → Rested w (lookedTurn s n look part w e a)
-    unfolding lookedTurn soughtTurn
+    looked-rested : (part : List ℕ) (e : Entry) (a : Answer (List ℕ)) → Rested w (looked_turn s n look part w e a)
+    unfolding looked_turn sought_turn
     looked-rested part e ends = tt
     looked-rested part e (refuses r) = tt
     looked-rested part e (gives t) = found-rested part e _ _
 
-    entry-rested : (part : List ℕ) (a : Answer Entry) → Rested w (entryAfter s n look part w a)
-    unfolding entryAfter givenTurn
+    entry-rested : (part : List ℕ) (a : Answer Entry) → Rested w (entry_after s n look part w a)
+    unfolding entry_after given_turn
     entry-rested part ends = tt
     entry-rested part (refuses r) = tt
     entry-rested part (gives e) = both (Rested w) _ _ _ (both (Rested w) _ _ _ tt (both (Rested w) _ _ _ tt (looked-rested part e _))) tt
 
-    list-rested : (h : Attribute) (a : Answer Span) → Rested w (listTurn w h a)
-    unfolding listTurn
+    list-rested : (h : Attribute) (a : Answer Span) → Rested w (list_turn w h a)
+    unfolding list_turn
     list-rested h ends = tt
     list-rested h (refuses r) = tt
     list-rested h (gives p) = tt
 
-    raw-rested : (a : Answer Attribute) → Rested w (rawAfter s n w a)
-    unfolding rawAfter
+    raw-rested : (a : Answer Attribute) → Rested w (raw_after s n w a)
+    unfolding raw_after
     raw-rested ends = tt
     raw-rested (refuses r) = tt
-    raw-rested (gives h) = both (Rested w) _ _ _ (list-rested h (listIn s n h)) (λ y. no-list-lies)
+    raw-rested (gives h) = both (Rested w) _ _ _ (list-rested h (list_in s n h)) (λ y. no-list-lies)
 
-    pub rested : Rested w (smallStep s n look w)
-    unfolding smallStep entryTurn rawTurn
+    pub rested : Rested w (small_step s n look w)
+    unfolding small_step entry_turn raw_turn
     rested = both (Rested w) w.list.is _ _ (entry-rested _ _) (raw-rested _)

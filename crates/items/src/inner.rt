@@ -1,10 +1,10 @@
 // The walk behind the opening checks, for callers that made them: the loops over its turns, and the first of a type.
 ghost use Rattle.std.specs.Prelude.{◌≡◌, ◌+◌, ◌≤◌, length};
 ghost use Rattle.fields.specs.Answer.{refuses};
-ghost use Rattle.table.specs.Held.{recordOf};
+ghost use Rattle.table.specs.Held.{record_of};
 ghost use Rattle.turns.specs.State.{Lies, Ready};
-ghost use Rattle.items.specs.First.{toldFirst, countedItem, firstIn};
-ghost use Rattle.items.specs.Items.{toldNext, mostReads, nextIn};
+ghost use Rattle.items.specs.First.{told_first, counted_item, first_in};
+ghost use Rattle.items.specs.Items.{told_next, most_reads, next_in};
 
 use crate::{First, FirstItem, Walked};
 use fields::{RecordNumber, Refusal, known_type};
@@ -16,8 +16,8 @@ use turns::{ItemStep, Kind, State};
 pub fn next<'a>(base: &'a [u8], number: RecordNumber, t: &'a [u8], h: Numbers, w: State) -> Walked
     requires ready { Ready base.now t.now h }
     requires lies { Lies (length base.now) w.list }
-    ensures result_value { toldNext result ≡ nextIn base.now number (recordOf t.now) w }
-    ensures reads_le_most_reads { result.reads ≤ mostReads }
+    ensures result_value { told_next result ≡ next_in base.now number (record_of t.now) w }
+    ensures reads_le_most_reads { result.reads ≤ most_reads }
 {
     let mut at = w;
     let mut reads: u64 = 0;
@@ -55,7 +55,7 @@ pub fn next<'a>(base: &'a [u8], number: RecordNumber, t: &'a [u8], h: Numbers, w
 }
 
 pub fn first_refused(r: Refusal, reads: u64) -> First
-    ensures { toldFirst result ≡ countedItem (refuses r) reads }
+    ensures { told_first result ≡ counted_item (refuses r) reads }
 {
     let answer = FirstItem::Refused(r);
     First { answer, reads }
@@ -64,7 +64,7 @@ pub fn first_refused(r: Refusal, reads: u64) -> First
 // The first item of a type, from fresh on: an item of unknown type is 6, the end is 18.
 pub fn first_of<'a>(base: &'a [u8], number: RecordNumber, t: &'a [u8], h: Numbers, ty: u32) -> First
     requires { Ready base.now t.now h }
-    ensures { toldFirst result ≡ firstIn base.now number (recordOf t.now) ty }
+    ensures { told_first result ≡ first_in base.now number (record_of t.now) ty }
 {
     let mut at = crate::fresh(base);
     let mut reads: u64 = 0;

@@ -4,11 +4,11 @@
 pub mod inner;
 
 ghost use Rattle.std.specs.Prelude.{◌≡◌};
-ghost use Rattle.items.specs.Start.{fresh_of, insideOf};
+ghost use Rattle.items.specs.Start.{fresh_of, inside_of};
 ghost use Rattle.fields.specs.Answer.{refuses};
-ghost use Rattle.fields.specs.Open.{toldOpened};
-ghost use Rattle.items.specs.Items.{leaves, toldNext, next_of};
-ghost use Rattle.items.specs.First.{toldFirst, first_of};
+ghost use Rattle.fields.specs.Open.{told_opened};
+ghost use Rattle.items.specs.Items.{leaves, told_next, next_of};
+ghost use Rattle.items.specs.First.{told_first, first_of};
 
 use fields::{Opened, RecordNumber, Refusal};
 use table::Tested;
@@ -49,7 +49,7 @@ pub fn fresh(s: &[u8]) -> State
 
 // Check 22: whether a state's list lies inside the record.
 pub fn inside(s: &[u8], number: RecordNumber, l: Rest) -> Opened
-    ensures { toldOpened result ≡ insideOf s.now number l }
+    ensures { told_opened result ≡ inside_of s.now number l }
 {
     if l.is {
         if l.to < l.from {
@@ -71,7 +71,7 @@ pub fn inside(s: &[u8], number: RecordNumber, l: Rest) -> Opened
 }
 
 fn refused(r: Refusal, w: State) -> Walked
-    ensures { toldNext result ≡ leaves (refuses r) w 0 }
+    ensures { told_next result ≡ leaves (refuses r) w 0 }
 {
     let answer = ItemStep::Refused(r);
     Walked {
@@ -83,7 +83,7 @@ fn refused(r: Refusal, w: State) -> Walked
 
 // The next item of a walk, its end, or a refusal: 21, 1, 2 and 22 first, then the steps. Any state may be lent.
 pub fn next<'a>(base: &'a [u8], number: RecordNumber, t: &'a [u8], w: State) -> Walked
-    ensures { toldNext result ≡ next_of base.now number t.now w }
+    ensures { told_next result ≡ next_of base.now number t.now w }
 {
     let a = table::opening(base, number, t);
     match a {
@@ -100,7 +100,7 @@ pub fn next<'a>(base: &'a [u8], number: RecordNumber, t: &'a [u8], w: State) -> 
 
 // The first item of a type, from fresh on: 21, 1 and 2 first; then 6 at an item of unknown type, 18 where the walk ends without one.
 pub fn first_of<'a>(base: &'a [u8], number: RecordNumber, t: &'a [u8], ty: u32) -> First
-    ensures { toldFirst result ≡ first_of base.now number t.now ty }
+    ensures { told_first result ≡ first_of base.now number t.now ty }
 {
     let a = table::opening(base, number, t);
     match a {

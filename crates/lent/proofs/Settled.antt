@@ -3,18 +3,18 @@ use mathlib.Core.Path.{◌≡◌, refl, sym, ap, ◌∙◌}
 use mathlib.Core.List.{List}
 use Prim.Native.Nat.{ℕ}
 use Rattle.fields.specs.Answer.{Answer}
-use Rattle.fields.proofs.Settled.{readBack, settled, nothing}
-use Rattle.parts.specs.Parts.{toldEnded, Listing}
+use Rattle.fields.proofs.Settled.{read_back, settled, nothing}
+use Rattle.parts.specs.Parts.{told_ended, Listing}
 use Rattle.part.specs.declared.Part.{Part}
 use Rattle.parts.specs.declared.Ended.{Ended}
 use Rattle.parts.specs.declared.Ended.TheVariants as ended
 use Rattle.lent.specs.Lent.{Fills}
 use Rattle.lent.specs.declared.Filled.{Filled}
 
-abbrev endedBack : Answer Unit → Ended
-endedBack = readBack (λ _. ended.Whole) (ended.Refused nothing) ended.Refused
+abbrev ended_back : Answer Unit → Ended
+ended_back = read_back (λ _. ended.Whole) (ended.Refused nothing) ended.Refused
 
-ended-read : (e : Ended) → endedBack (toldEnded e) ≡ e
+ended-read : (e : Ended) → ended_back (told_ended e) ≡ e
 ended-read ended.Whole = refl
 ended-read (ended.Refused r) = refl
 
@@ -25,7 +25,7 @@ pub filled-settled : {l : Listing} {before after then : List Part} {r t : Filled
 unfolding made
 filled-settled {l} {before} {after} {then} {r} {t} p q =
     let b = p.count ∙ sym q.count in
-    let c = settled toldEnded endedBack ended-read {r = r.answer} {t = t.answer} p.answer q.answer in
+    let c = settled told_ended ended_back ended-read {r = r.answer} {t = t.answer} p.answer q.answer in
     let d = p.reads ∙ sym q.reads in
     let e : made r.count r.answer r.reads ≡ made t.count t.answer t.reads =
     ap (λ x. made x r.answer r.reads) b ∙ ap (λ x. made t.count x r.reads) c ∙ ap (made t.count t.answer) d in

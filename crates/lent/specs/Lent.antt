@@ -3,11 +3,11 @@ use Rattle.std.specs.Prelude.{ℕ, ◌+◌, ◌≤◌, ◌<◌, ◌≡◌, List,
 use Rattle.fields.specs.Pick.{pick}
 use Rattle.fields.specs.Answer.{Answer}
 use Rattle.fields.specs.declared.RecordNumber.{RecordNumber}
-use Rattle.table.specs.Held.{recordOf}
+use Rattle.table.specs.Held.{record_of}
 use Rattle.table.specs.declared.Numbers.{Numbers}
-use Rattle.turns.specs.State.{Ready, noKey}
+use Rattle.turns.specs.State.{Ready, no_key}
 use Rattle.turns.specs.declared.Rest.{Rest}
-use Rattle.parts.specs.Parts.{toldEnded, Stepped, lists, stops, cursor, Listing, listing, stepIn, partsFrom, parts_of, filled}
+use Rattle.parts.specs.Parts.{told_ended, Stepped, lists, stops, cursor, Listing, listing, step_in, parts_from, parts_of, filled}
 use Rattle.part.specs.declared.Part.{Part}
 use Rattle.lent.specs.declared.Filled.{Filled}
 use Rattle.lent.specs.declared.Standing.{Standing}
@@ -19,12 +19,12 @@ pub record Fills (l : Listing) (before after : List Part) (r : Filled) : Type 0 
   -- "the reported number" is theirs
   pub count : r.count ≡ length l.parts
   -- whole, or the refusal that ended them; those listed before it stay written
-  pub answer : toldEnded r.answer ≡ l.answer
+  pub answer : told_ended r.answer ≡ l.answer
   pub reads : r.reads ≡ l.reads
 
 -- the step that the filling stands at: a part to write, or the end
-unfoldable pub toldStanding : Standing → Stepped
-toldStanding w = pick w.go (lists w.part w.at w.told.reads) (stops (toldEnded w.told.answer) w.told.reads)
+unfoldable pub told_standing : Standing → Stepped
+told_standing w = pick w.go (lists w.part w.at w.told.reads) (stops (told_ended w.told.answer) w.told.reads)
 
 -- a step, with what was read before it
 unfoldable pub counted : ℕ → Stepped → Stepped
@@ -35,7 +35,7 @@ counted k (stops a r) = stops a (k + r)
 pub record Stands (h : Numbers) (k before : ℕ) (x : Stepped) (w : Standing) : Type 0 where
   pub head : w.h ≡ h
   pub count : w.told.count ≡ k
-  pub step : toldStanding w ≡ counted before x
+  pub step : told_standing w ≡ counted before x
   pub few : w.told.reads ≤ before + 257
 
 -- what the loop has shown where it asks for the step behind a part; a step reads 257 at most and takes a byte at least, of 4,096
@@ -50,11 +50,11 @@ pub record Onward (s t : List ℕ) (room : ℕ) (w : Standing) : Type 0 where
 pub record Empty (a : Answer Unit) (w : Standing) : Type 0 where
   pub go : w.go ≡ false
   pub count : w.told.count ≡ 0
-  pub answer : toldEnded w.told.answer ≡ a
+  pub answer : told_ended w.told.answer ≡ a
   pub reads : w.told.reads ≡ 0
 
 -- how the filling begins: by the first step where the opening checks passed and there is a list, else with its end
 pub data Begins (s : List ℕ) (n : RecordNumber) (t : List ℕ) (room : ℕ) (l : Rest) (w : Standing) : Type 0 where
-  listed : (h : Numbers) → Ready s t h → l.from ≤ l.to → l.to ≤ length s → partsFrom s n (recordOf t) room l ≡ parts_of s n t room l
-      → Stands h 0 0 (stepIn s n (recordOf t) room 0 (cursor l noKey)) w → Begins s n t room l w
+  listed : (h : Numbers) → Ready s t h → l.from ≤ l.to → l.to ≤ length s → parts_from s n (record_of t) room l ≡ parts_of s n t room l
+      → Stands h 0 0 (step_in s n (record_of t) room 0 (cursor l no_key)) w → Begins s n t room l w
   unlisted : (a : Answer Unit) → listing [] a 0 ≡ parts_of s n t room l → Empty a w → Begins s n t room l w

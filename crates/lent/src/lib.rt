@@ -2,9 +2,9 @@
 #![tactic(auto)]
 
 ghost use Rattle.std.specs.Prelude.{◌≡◌, ◌+◌, ◌≤◌, min, length};
-ghost use Rattle.table.specs.Held.{recordOf};
-ghost use Rattle.turns.specs.State.{Ready, noKey};
-ghost use Rattle.parts.specs.Parts.{toldEnded, toldTurn, cursor, stepIn, parts_of, blankParts, Collects};
+ghost use Rattle.table.specs.Held.{record_of};
+ghost use Rattle.turns.specs.State.{Ready, no_key};
+ghost use Rattle.parts.specs.Parts.{told_ended, told_turn, cursor, step_in, parts_of, blank_parts, Collects};
 ghost use Rattle.lent.specs.Lent.{Fills, Stands, Onward, Empty, Begins};
 
 use fields::{Opened, RecordNumber};
@@ -34,7 +34,7 @@ pub struct Standing {
 
 // Ended before the first part: there is none to write, and no step behind it.
 fn none(answer: Ended) -> Standing
-    ensures { Empty (toldEnded answer) result }
+    ensures { Empty (told_ended answer) result }
 {
     let part = parts::inner::blank();
     let list = turns::inner::no_list();
@@ -64,7 +64,7 @@ fn none(answer: Ended) -> Standing
 // Where a step leaves the filling, after `count` parts for which `before` was read.
 fn stand(m: PartTurn, h: Numbers, count: usize, before: u64) -> Standing
     requires { (m.reads ≤ 257) × (before ≤ 1052672) }
-    ensures { Stands h count before (toldTurn m) result }
+    ensures { Stands h count before (told_turn m) result }
 {
     let reads = before + m.reads;
     let at = m.next;
@@ -113,7 +113,7 @@ fn start<'a>(
 ) -> Standing
     requires ready { Ready base.now t.now h }
     requires from_le_to { (l.from ≤ l.to) × (l.to ≤ length base.now) }
-    ensures { Stands h 0 0 (stepIn base.now number (recordOf t.now) room 0 (cursor l noKey)) result }
+    ensures { Stands h 0 0 (step_in base.now number (record_of t.now) room 0 (cursor l no_key)) result }
 {
     let key = turns::inner::no_key();
     let c = Cursor { list: l, key };
@@ -146,7 +146,7 @@ fn first<'a>(base: &'a [u8], number: RecordNumber, t: &'a [u8], l: Rest, room: u
 // The step behind a part that was written.
 fn next<'a>(base: &'a [u8], number: RecordNumber, t: &'a [u8], room: usize, w: Standing) -> Standing
     requires { Onward base.now t.now room w }
-    ensures { Stands w.h (w.told.count + 1) w.told.reads (stepIn base.now number (recordOf t.now) room (w.told.count + 1) w.at) result }
+    ensures { Stands w.h (w.told.count + 1) w.told.reads (step_in base.now number (record_of t.now) room (w.told.count + 1) w.at) result }
 {
     let count = w.told.count + 1;
     let before = w.told.reads;
@@ -216,7 +216,7 @@ pub fn list_within<'a>(
     l: Rest,
     room: usize,
 ) -> Collected
-    ensures { Collects (parts_of base.now number t.now (min room 157) l) blankParts result }
+    ensures { Collects (parts_of base.now number t.now (min room 157) l) blank_parts result }
 {
     let none = parts::inner::blank();
     let a = [none; 157];

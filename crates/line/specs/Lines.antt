@@ -2,7 +2,7 @@
 use Rattle.std.specs.Prelude.{ℕ, List, [], ◌∷◌, ◌++◌}
 use Rattle.fields.specs.Answer.{Answer, gives, ends, refuses}
 use Rattle.fields.specs.declared.RecordNumber.{RecordNumber}
-use Rattle.values.specs.Value.{Value, inRecord, inRuns}
+use Rattle.values.specs.Value.{Value, in_record, in_runs}
 use Rattle.values.specs.declared.Span.{Span}
 use Rattle.turns.specs.declared.Item.{Item}
 use Rattle.part.specs.declared.Part.{Part}
@@ -16,56 +16,56 @@ abbrev pub newline : Text
 newline = 10 ∷ []
 
 -- `record NUMBER size M`
-unfoldable pub recordLine : RecordNumber → ℕ → Text
-recordLine n m = told "record" (n.0 ∷ []) ++ told " size" (m ∷ []) ++ newline
+unfoldable pub record_line : RecordNumber → ℕ → Text
+record_line n m = told "record" (n.0 ∷ []) ++ told " size" (m ∷ []) ++ newline
 
 -- `name OFFSET BYTES`, or `name refused N`; a name call does not end
-unfoldable pub nameText : Answer Span → Text
-nameText (gives p) = told " name" (p.from ∷ p.bytes ∷ [])
-nameText ends = []
-nameText (refuses r) = told " name refused" (r.number ∷ [])
+unfoldable pub name_text : Answer Span → Text
+name_text (gives p) = told " name" (p.from ∷ p.bytes ∷ [])
+name_text ends = []
+name_text (refuses r) = told " name refused" (r.number ∷ [])
 
 -- `value resident OFFSET BYTES`, `value runs OFFSET BYTES size S`, or `value refused N`; a value call does not end
-unfoldable pub valueText : Answer Value → Text
-valueText (gives (inRecord p)) = told " value resident" (p.from ∷ p.bytes ∷ [])
-valueText (gives (inRuns p size)) = told " value runs" (p.from ∷ p.bytes ∷ []) ++ told " size" (size ∷ [])
-valueText ends = []
-valueText (refuses r) = told " value refused" (r.number ∷ [])
+unfoldable pub value_text : Answer Value → Text
+value_text (gives (in_record p)) = told " value resident" (p.from ∷ p.bytes ∷ [])
+value_text (gives (in_runs p size)) = told " value runs" (p.from ∷ p.bytes ∷ []) ++ told " size" (size ∷ [])
+value_text ends = []
+value_text (refuses r) = told " value refused" (r.number ∷ [])
 
 -- `value parts K size S`, or `value parts K refused N`; parts are whole or refused
-unfoldable pub partsText : ℕ → ℕ → Answer Unit → Text
-partsText k size (gives u) = told " value parts" (k ∷ []) ++ told " size" (size ∷ [])
-partsText k size ends = []
-partsText k size (refuses r) = told " value parts" (k ∷ []) ++ told " refused" (r.number ∷ [])
+unfoldable pub parts_text : ℕ → ℕ → Answer Unit → Text
+parts_text k size (gives u) = told " value parts" (k ∷ []) ++ told " size" (size ∷ [])
+parts_text k size ends = []
+parts_text k size (refuses r) = told " value parts" (k ∷ []) ++ told " refused" (r.number ∷ [])
 
 -- `attr RECORD OFFSET TYPE LENGTH INSTANCE`, its name, and its value or parts
-unfoldable pub attrLine : Item → Text → Text → Text
-attrLine i name value =
+unfoldable pub attr_line : Item → Text → Text → Text
+attr_line i name value =
     told "attr" (i.file.0 ∷ i.attribute.offset ∷ i.attribute.ty ∷ i.attribute.length ∷ i.attribute.instance ∷ [])
     ++ name
     ++ value
     ++ newline
 
 -- RECORD OFFSET VCN RUNOFFSET RUNBYTES: "VCN is the attribute's own lowest"
-unfoldable pub partNumbers : Part → List ℕ
-partNumbers p = p.file.0 ∷ p.offset ∷ p.lowest.0 ∷ p.runs.from ∷ p.runs.bytes ∷ []
+unfoldable pub part_numbers : Part → List ℕ
+part_numbers p = p.file.0 ∷ p.offset ∷ p.lowest.0 ∷ p.runs.from ∷ p.runs.bytes ∷ []
 
 -- a line of these five numbers
-unfoldable pub partLineOf : List ℕ → Text
-partLineOf ns = told "part" ns ++ newline
+unfoldable pub part_line_of : List ℕ → Text
+part_line_of ns = told "part" ns ++ newline
 
 -- `part RECORD OFFSET VCN RUNOFFSET RUNBYTES`
-unfoldable pub partLine : Part → Text
-partLine p = partLineOf (partNumbers p)
+unfoldable pub part_line : Part → Text
+part_line p = part_line_of (part_numbers p)
 
 -- `end reads C`
-unfoldable pub endLine : ℕ → Text
-endLine c = told "end reads" (c ∷ []) ++ newline
+unfoldable pub end_line : ℕ → Text
+end_line c = told "end reads" (c ∷ []) ++ newline
 
 -- `stopped N reads C`
-unfoldable pub stoppedLine : ℕ → ℕ → Text
-stoppedLine n c = told "stopped" (n ∷ []) ++ told " reads" (c ∷ []) ++ newline
+unfoldable pub stopped_line : ℕ → ℕ → Text
+stopped_line n c = told "stopped" (n ∷ []) ++ told " reads" (c ∷ []) ++ newline
 
 -- `table refused 21`
-unfoldable pub refusedLine : Text
-refusedLine = told "table refused" (21 ∷ []) ++ newline
+unfoldable pub refused_line : Text
+refused_line = told "table refused" (21 ∷ []) ++ newline

@@ -1,11 +1,11 @@
 // The lines of the listing, each put behind the text so far, for callers that have shown that there is room. None is longer than 256 bytes.
 ghost use Rattle.std.specs.Prelude.{◌+◌, ◌≤◌, ◌≡◌, length};
 ghost use Rattle.fields.specs.Pick.{pick};
-ghost use Rattle.values.specs.Span.{toldSpanned};
-ghost use Rattle.values.specs.Value.{toldValued};
-ghost use Rattle.parts.specs.Parts.{toldEnded};
+ghost use Rattle.values.specs.Span.{told_spanned};
+ghost use Rattle.values.specs.Value.{told_valued};
+ghost use Rattle.parts.specs.Parts.{told_ended};
 ghost use Rattle.text.specs.Put.{Put};
-ghost use Rattle.line.specs.Lines.{recordLine, nameText, valueText, partsText, attrLine, partLineOf, endLine, stoppedLine, refusedLine};
+ghost use Rattle.line.specs.Lines.{record_line, name_text, value_text, parts_text, attr_line, part_line_of, end_line, stopped_line, refused_line};
 
 use crate::Gathered;
 use fields::RecordNumber;
@@ -17,7 +17,7 @@ use values::{Spanned, Valued};
 // record NUMBER size M
 pub fn record_line(out: &mut [u8], at: usize, number: RecordNumber, size: usize) -> usize
     requires { at + 256 ≤ length out.old }
-    ensures { Put out.old at out.new result (recordLine number size) 256 }
+    ensures { Put out.old at out.new result (record_line number size) 256 }
 {
     let end = put_words(out, at, b"record", &[number.0]);
     let end = put_words(out, end, b" size", &[size as u64]);
@@ -27,7 +27,7 @@ pub fn record_line(out: &mut [u8], at: usize, number: RecordNumber, size: usize)
 // name OFFSET BYTES, or name refused N
 fn put_name(out: &mut [u8], at: usize, name: Spanned) -> usize
     requires { at + 55 ≤ length out.old }
-    ensures { Put out.old at out.new result (nameText (toldSpanned name)) 55 }
+    ensures { Put out.old at out.new result (name_text (told_spanned name)) 55 }
 {
     match name {
         Spanned::Refused(r) => put_words(out, at, b" name refused", &[r.number as u64]),
@@ -38,7 +38,7 @@ fn put_name(out: &mut [u8], at: usize, name: Spanned) -> usize
 // value resident, value runs, or value refused
 fn put_value(out: &mut [u8], at: usize, value: Valued) -> usize
     requires { at + 79 ≤ length out.old }
-    ensures { Put out.old at out.new result (valueText (toldValued value)) 79 }
+    ensures { Put out.old at out.new result (value_text (told_valued value)) 79 }
 {
     match value {
         Valued::Refused(r) => put_words(out, at, b" value refused", &[r.number as u64]),
@@ -58,7 +58,7 @@ fn put_value(out: &mut [u8], at: usize, value: Valued) -> usize
 // value parts K, and their size or the refusal that ends them
 fn put_parts(out: &mut [u8], at: usize, g: Gathered) -> usize
     requires { at + 79 ≤ length out.old }
-    ensures { Put out.old at out.new result (partsText g.count g.size (toldEnded g.answer)) 79 }
+    ensures { Put out.old at out.new result (parts_text g.count g.size (told_ended g.answer)) 79 }
 {
     let end = put_words(out, at, b" value parts", &[g.count as u64]);
     let answer = g.answer;
@@ -71,7 +71,7 @@ fn put_parts(out: &mut [u8], at: usize, g: Gathered) -> usize
 // Its parts where an item has a list, else its value.
 fn put_contents(out: &mut [u8], at: usize, is: bool, g: Gathered, value: Valued) -> usize
     requires { at + 79 ≤ length out.old }
-    ensures { Put out.old at out.new result (pick is (partsText g.count g.size (toldEnded g.answer)) (valueText (toldValued value))) 79 }
+    ensures { Put out.old at out.new result (pick is (parts_text g.count g.size (told_ended g.answer)) (value_text (told_valued value))) 79 }
 {
     if is {
         return put_parts(out, at, g);
@@ -90,7 +90,7 @@ pub fn attr_line(
 ) -> usize
     requires { at + 256 ≤ length out.old }
     ensures { Put out.old at out.new result
-        (attrLine i (nameText (toldSpanned name)) (pick i.rest.is (partsText g.count g.size (toldEnded g.answer)) (valueText (toldValued value)))) 256 }
+        (attr_line i (name_text (told_spanned name)) (pick i.rest.is (parts_text g.count g.size (told_ended g.answer)) (value_text (told_valued value)))) 256 }
 {
     let file = i.file;
     let h = i.attribute;
@@ -111,7 +111,7 @@ pub fn attr_line(
 // part RECORD OFFSET VCN RUNOFFSET RUNBYTES, the five numbers handed in
 pub fn part_line(out: &mut [u8], at: usize, numbers: &[u64]) -> usize
     requires { (at + 256 ≤ length out.old) × (length numbers.now ≡ 5) }
-    ensures { Put out.old at out.new result (partLineOf numbers.now) 256 }
+    ensures { Put out.old at out.new result (part_line_of numbers.now) 256 }
 {
     let end = put_words(out, at, b"part", numbers);
     put_byte(out, end, b'\n')
@@ -120,7 +120,7 @@ pub fn part_line(out: &mut [u8], at: usize, numbers: &[u64]) -> usize
 // end reads C
 pub fn end_line(out: &mut [u8], at: usize, reads: u64) -> usize
     requires { at + 256 ≤ length out.old }
-    ensures { Put out.old at out.new result (endLine reads) 256 }
+    ensures { Put out.old at out.new result (end_line reads) 256 }
 {
     let end = put_words(out, at, b"end reads", &[reads]);
     put_byte(out, end, b'\n')
@@ -129,7 +129,7 @@ pub fn end_line(out: &mut [u8], at: usize, reads: u64) -> usize
 // stopped N reads C
 pub fn stopped_line(out: &mut [u8], at: usize, n: u8, reads: u64) -> usize
     requires { at + 256 ≤ length out.old }
-    ensures { Put out.old at out.new result (stoppedLine n reads) 256 }
+    ensures { Put out.old at out.new result (stopped_line n reads) 256 }
 {
     let end = put_words(out, at, b"stopped", &[n as u64]);
     let end = put_words(out, end, b" reads", &[reads]);
@@ -139,7 +139,7 @@ pub fn stopped_line(out: &mut [u8], at: usize, n: u8, reads: u64) -> usize
 // table refused 21
 pub fn refused_line(out: &mut [u8], at: usize) -> usize
     requires { at + 256 ≤ length out.old }
-    ensures { Put out.old at out.new result refusedLine 256 }
+    ensures { Put out.old at out.new result refused_line 256 }
 {
     let end = put_words(out, at, b"table refused", &[21]);
     put_byte(out, end, b'\n')

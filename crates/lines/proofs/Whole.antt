@@ -8,15 +8,15 @@ use lib.ListN.{length, drop}
 use Rattle.fields.proofs.Cases.{yes, no, both}
 use Rattle.fields.proofs.Opens.{not-true}
 use Rattle.line.specs.Lines.{Text}
-use Rattle.lines.specs.Listing.{listingOf}
-use Rattle.lines.specs.Making.{toComeAt, toCome, Sound, Tells, starting}
+use Rattle.lines.specs.Listing.{listing_of}
+use Rattle.lines.specs.Making.{to_come_at, to_come, Sound, Tells, starting}
 use Rattle.lines.specs.Pages.{Page, page, onto, joined, page_of, Pages, Lists}
 use Rattle.lines.specs.declared.Making.{Making}
 use Rattle.lines.specs.declared.Told.{Told}
 use Rattle.lines.specs.declared.Listed.{Listed}
 
-pub started : (t ns : List ℕ) → toCome t starting ns ≡ listingOf t
-unfolding toCome toComeAt
+pub started : (t ns : List ℕ) → to_come t starting ns ≡ listing_of t
+unfolding to_come to_come_at
 started t ns = refl
 
 pub started-sound : (t : List ℕ) (m : Making) → m ≡ starting → Sound t m
@@ -24,24 +24,24 @@ started-sound t m e = subst (Sound t) (sym e) tt
 
 -- calls repeated on table t from m and the numbers ns on, with the lines that they told: until a call tells none
 pub data Calls (t : List ℕ) : Making → List ℕ → List Text → Type 0 where
-  last : (m : Making) (ns ns' d e : List ℕ) (at : ℕ) (r : Told) → Tells (toCome t m ns) (toCome t r.next ns') d at e r → r.more ≡ false → Calls t m ns []
-  again : (m : Making) (ns ns' d e : List ℕ) (at : ℕ) (r : Told) (ls : List Text) (w : Tells (toCome t m ns) (toCome t r.next ns') d at e r) → r.more ≡ true
+  last : (m : Making) (ns ns' d e : List ℕ) (at : ℕ) (r : Told) → Tells (to_come t m ns) (to_come t r.next ns') d at e r → r.more ≡ false → Calls t m ns []
+  again : (m : Making) (ns ns' d e : List ℕ) (at : ℕ) (r : Told) (ls : List Text) (w : Tells (to_come t m ns) (to_come t r.next ns') d at e r) → r.more ≡ true
       → Calls t r.next ns' ls → Calls t m ns (w.line ∷ ls)
 
 -- they told what was to come
-pub calls-tell : (t : List ℕ) {m : Making} {ns : List ℕ} {ls : List Text} → Calls t m ns ls → toCome t m ns ≡ ls
+pub calls-tell : (t : List ℕ) {m : Making} {ns : List ℕ} {ls : List Text} → Calls t m ns ls → to_come t m ns ≡ ls
 calls-tell t (last m ns ns' d e' at r w e) = w.told ∙ sym (no _ _ _ e refl)
 calls-tell t (again m ns ns' d e' at r ls w e c) = w.told ∙ sym (yes _ _ _ e refl) ∙ ap (λ (x : List Text). w.line ∷ x) (calls-tell t c)
 
 -- repeated calls from the start give exactly the listing
-pub listing-told : (t : List ℕ) {ns : List ℕ} {ls : List Text} → Calls t starting ns ls → ls ≡ listingOf t
+pub listing-told : (t : List ℕ) {ns : List ℕ} {ls : List Text} → Calls t starting ns ls → ls ≡ listing_of t
 listing-told t {ns} c = sym (calls-tell t c) ∙ started t ns
 
 -- one page from the start
-pub listed : {d e : List ℕ} (t : List ℕ) (m : Making) (ns : List ℕ) {after : List Text} {r : Told} → m ≡ starting → Pages (page_of (length d) (toCome t m ns)) after d e r
-    → Lists (page_of (length d) (listingOf t)) d e (record { end = r.end; more = r.more })
+pub listed : {d e : List ℕ} (t : List ℕ) (m : Making) (ns : List ℕ) {after : List Text} {r : Told} → m ≡ starting → Pages (page_of (length d) (to_come t m ns)) after d e r
+    → Lists (page_of (length d) (listing_of t)) d e (record { end = r.end; more = r.more })
 listed {d} {e} t m ns {after} {r} q p =
-    let w : toCome t m ns ≡ listingOf t = ap (λ (x : Making). toCome t x ns) q ∙ started t ns in
+    let w : to_come t m ns ≡ listing_of t = ap (λ (x : Making). to_come t x ns) q ∙ started t ns in
     subst (λ (x : List Text). Lists (page_of (length d) x) d e (record { end = r.end; more = r.more })) w (record { text = p.text; end = p.end; fits = p.fits; more = p.more })
 
 -- a page takes lines from the front and loses none: its text and what is left are the lines
@@ -60,11 +60,11 @@ page-whole room (l ∷ ls) e =
     both (λ (p : Page). p.more ≡ false → p.rest ≡ []) (ltb room 256) (page [] (l ∷ ls) true) (onto l (page_of (room - length l) ls)) (λ q. absurd (not-true (sym q))) (page-whole (room - length l) ls) e
 
 -- so a listing that has no more to tell stands whole in the buffer
-pub list-whole : {d e : List ℕ} (t : List ℕ) {r : Listed} → Lists (page_of (length d) (listingOf t)) d e r → r.more ≡ false
-    → e ≡ joined (listingOf t) ++ drop (length (joined (listingOf t))) d
+pub list-whole : {d e : List ℕ} (t : List ℕ) {r : Listed} → Lists (page_of (length d) (listing_of t)) d e r → r.more ≡ false
+    → e ≡ joined (listing_of t) ++ drop (length (joined (listing_of t))) d
 unfolding joined
 list-whole {d} {e} t {r} p m =
-    let q = page-whole (length d) (listingOf t) (sym p.more ∙ m) in
-    let w : (page_of (length d) (listingOf t)).text ≡ joined (listingOf t) =
-    sym (append-nil _) ∙ ap (λ (x : List Text). (page_of (length d) (listingOf t)).text ++ joined x) (sym q) ∙ page-all (length d) (listingOf t) in
+    let q = page-whole (length d) (listing_of t) (sym p.more ∙ m) in
+    let w : (page_of (length d) (listing_of t)).text ≡ joined (listing_of t) =
+    sym (append-nil _) ∙ ap (λ (x : List Text). (page_of (length d) (listing_of t)).text ++ joined x) (sym q) ∙ page-all (length d) (listing_of t) in
     p.text ∙ ap (λ (x : Text). x ++ drop (length x) d) w

@@ -1,14 +1,14 @@
 // The listing line by line, for callers that began it with `start` and lend it the same table throughout.
 ghost use Rattle.std.specs.Prelude.{◌≡◌, List, ℕ, ◌+◌, ◌*◌, ◌≤◌, ◌<◌, length, take, drop};
 ghost use Rattle.fields.specs.Answer.{gives};
-ghost use Rattle.fields.specs.Open.{open_in, toldOpened};
+ghost use Rattle.fields.specs.Open.{open_in, told_opened};
 ghost use Rattle.table.specs.Check.{table_of};
-ghost use Rattle.table.specs.Held.{recordOf, base_of};
-ghost use Rattle.turns.specs.State.{state, noList, noKey};
+ghost use Rattle.table.specs.Held.{record_of, base_of};
+ghost use Rattle.turns.specs.State.{state, no_list, no_key};
 ghost use Rattle.text.specs.Put.{Put};
-ghost use Rattle.line.specs.Lines.{partLineOf, recordLine, refusedLine};
-ghost use Rattle.lines.specs.Listing.{walkLines, baseLines, listingOf};
-ghost use Rattle.lines.specs.Making.{toComeAt, toCome, anyAt, Based, Going, Sound, Tells, ending, showing, noNumbers, stageOf, beginning};
+ghost use Rattle.line.specs.Lines.{part_line_of, record_line, refused_line};
+ghost use Rattle.lines.specs.Listing.{walk_lines, base_lines, listing_of};
+ghost use Rattle.lines.specs.Making.{to_come_at, to_come, any_at, Based, Going, Sound, Tells, ending, showing, no_numbers, stage_of, beginning};
 ghost use Rattle.lines.specs.Pages.{Pages, page_of};
 ghost use Rattle.lines.specs.declared.Stage.TheVariants.{Items};
 
@@ -50,7 +50,7 @@ fn walk_line<'a>(
     requires based { Based t.now m.h base.now number }
     requires going { Going t.now m }
     requires in_bounds { (785 ≤ length numbers.old) × (at + 256 ≤ length out.old) }
-    ensures told { Tells (walkLines base.now number (recordOf t.now) m.reads m.walk) (toCome t.now result.next numbers.new) out.old at out.new result }
+    ensures told { Tells (walk_lines base.now number (record_of t.now) m.reads m.walk) (to_come t.now result.next numbers.new) out.old at out.new result }
     ensures sound { Sound t.now result.next × (length numbers.new ≡ length numbers.old) }
 {
     let h = m.h;
@@ -92,7 +92,7 @@ fn walk_line<'a>(
 fn part_line(m: Making, numbers: &mut [u64], out: &mut [u8], at: usize) -> Told
     requires shown_lt_count { (m.shown < m.count) × (m.count ≤ 157) }
     requires in_bounds { (785 ≤ length numbers.old) × (at + 256 ≤ length out.old) }
-    ensures put { Put out.old at out.new result.end (partLineOf (take 5 (drop (5 * m.shown) numbers.old))) 256 }
+    ensures put { Put out.old at out.new result.end (part_line_of (take 5 (drop (5 * m.shown) numbers.old))) 256 }
     ensures numbers_unchanged { (numbers.new ≡ numbers.old) × (result ≡ showing m result.end) }
 {
     let from = 5 * m.shown;
@@ -120,7 +120,7 @@ fn part_line(m: Making, numbers: &mut [u64], out: &mut [u8], at: usize) -> Told
 fn items_line<'a>(t: &'a [u8], m: Making, numbers: &mut [u64], out: &mut [u8], at: usize) -> Told
     requires going { Going t.now m }
     requires in_bounds { (785 ≤ length numbers.old) × (at + 256 ≤ length out.old) }
-    ensures told { Tells (toComeAt t.now m numbers.old Items) (toCome t.now result.next numbers.new) out.old at out.new result }
+    ensures told { Tells (to_come_at t.now m numbers.old Items) (to_come t.now result.next numbers.new) out.old at out.new result }
     ensures sound { Sound t.now result.next × (length numbers.new ≡ length numbers.old) }
 {
     if m.shown < m.count {
@@ -136,8 +136,8 @@ fn items_line<'a>(t: &'a [u8], m: Making, numbers: &mut [u64], out: &mut [u8], a
 // The line of a table that is malformed or has no base row.
 fn refused(out: &mut [u8], at: usize) -> Told
     requires { at + 256 ≤ length out.old }
-    ensures put { Put out.old at out.new result.end refusedLine 256 }
-    ensures value { result ≡ ending noNumbers (state 0 noList noKey) result.end }
+    ensures put { Put out.old at out.new result.end refused_line 256 }
+    ensures value { result ≡ ending no_numbers (state 0 no_list no_key) result.end }
 {
     let end = line::inner::refused_line(out, at);
     let none = crate::start();
@@ -148,7 +148,7 @@ fn refused(out: &mut [u8], at: usize) -> Told
 
 // Whether the walk of a base record begins, or the listing stops by an opening check.
 fn stage_of(o: Opened) -> Stage
-    ensures { result ≡ stageOf (toldOpened o) }
+    ensures { result ≡ stage_of (told_opened o) }
 {
     match o {
         Opened::Refused(r) => Stage::Stopped(r.number),
@@ -159,7 +159,7 @@ fn stage_of(o: Opened) -> Stage
 // The first line of a base record.
 fn record_line(base: &[u8], number: RecordNumber, h: Numbers, out: &mut [u8], at: usize) -> Told
     requires { at + 256 ≤ length out.old }
-    ensures put { Put out.old at out.new result.end (recordLine number (length base.now)) 256 }
+    ensures put { Put out.old at out.new result.end (record_line number (length base.now)) 256 }
     ensures value { result ≡ beginning h base.now (open_in base.now number h.size) result.end }
 {
     let end = line::inner::record_line(out, at, number, base.len());
@@ -185,7 +185,7 @@ fn record_line(base: &[u8], number: RecordNumber, h: Numbers, out: &mut [u8], at
 fn based_line<'a>(t: &'a [u8], h: Numbers, out: &mut [u8], at: usize) -> Told
     requires t_value { table_of t.now ≡ gives h }
     requires at_in_bounds { at + 256 ≤ length out.old }
-    ensures told { (ns : List ℕ) → Tells (baseLines t.now h (base_of t.now)) (toCome t.now result.next ns) out.old at out.new result }
+    ensures told { (ns : List ℕ) → Tells (base_lines t.now h (base_of t.now)) (to_come t.now result.next ns) out.old at out.new result }
     ensures sound { Sound t.now result.next }
 {
     let b = table::base_row(h);
@@ -202,7 +202,7 @@ fn based_line<'a>(t: &'a [u8], h: Numbers, out: &mut [u8], at: usize) -> Told
 // The first line of a listing: the table is checked here, and nowhere else.
 fn first_line<'a>(t: &'a [u8], out: &mut [u8], at: usize) -> Told
     requires { at + 256 ≤ length out.old }
-    ensures told { (ns : List ℕ) → Tells (listingOf t.now) (toCome t.now result.next ns) out.old at out.new result }
+    ensures told { (ns : List ℕ) → Tells (listing_of t.now) (to_come t.now result.next ns) out.old at out.new result }
     ensures sound { Sound t.now result.next }
 {
     if 65536 < t.len() {
@@ -219,7 +219,7 @@ fn first_line<'a>(t: &'a [u8], out: &mut [u8], at: usize) -> Told
 pub fn next<'a>(t: &'a [u8], m: Making, numbers: &mut [u64], out: &mut [u8], at: usize) -> Told
     requires sound_2 { Sound t.now m }
     requires in_bounds { (785 ≤ length numbers.old) × (at + 256 ≤ length out.old) }
-    ensures told { Tells (toCome t.now m numbers.old) (toCome t.now result.next numbers.new) out.old at out.new result }
+    ensures told { Tells (to_come t.now m numbers.old) (to_come t.now result.next numbers.new) out.old at out.new result }
     ensures sound { Sound t.now result.next × (length numbers.new ≡ length numbers.old) }
 {
     let stage = m.stage;
@@ -242,7 +242,7 @@ pub fn next<'a>(t: &'a [u8], m: Making, numbers: &mut [u64], out: &mut [u8], at:
 
 // Whether a listing has lines to come.
 fn is_more(m: Making) -> bool
-    ensures { result ≡ anyAt m.stage }
+    ensures { result ≡ any_at m.stage }
 {
     let stage = m.stage;
     match stage {
@@ -257,7 +257,7 @@ fn is_more(m: Making) -> bool
 pub fn fill<'a>(t: &'a [u8], m: Making, numbers: &mut [u64], out: &mut [u8]) -> Told
     requires sound_2 { Sound t.now m }
     requires in_bounds { 785 ≤ length numbers.old }
-    ensures told { Pages (page_of (length out.old) (toCome t.now m numbers.old)) (toCome t.now result.next numbers.new) out.old out.new result }
+    ensures told { Pages (page_of (length out.old) (to_come t.now m numbers.old)) (to_come t.now result.next numbers.new) out.old out.new result }
     ensures sound { Sound t.now result.next × (length numbers.new ≡ length numbers.old) }
 {
     let mut here = m;

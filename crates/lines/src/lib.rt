@@ -4,7 +4,7 @@
 pub mod inner;
 
 ghost use Rattle.std.specs.Prelude.{◌≡◌, length};
-ghost use Rattle.lines.specs.Listing.{listingOf};
+ghost use Rattle.lines.specs.Listing.{listing_of};
 ghost use Rattle.lines.specs.Making.{starting};
 ghost use Rattle.lines.specs.Pages.{page_of, Lists};
 
@@ -76,7 +76,7 @@ pub struct Listed {
 
 // The listing of a table, into a lent buffer: all of it, or its first lines where 256 bytes are not left for the next one.
 pub fn list<'a>(t: &'a [u8], out: &mut [u8]) -> Listed
-    ensures { Lists (page_of (length out.old) (listingOf t.now)) out.old out.new result }
+    ensures { Lists (page_of (length out.old) (listing_of t.now)) out.old out.new result }
 {
     let mut numbers = [0u64; 785];
     let m = start();

@@ -3,6 +3,7 @@ use Prim.Native.Nat.{ℕ, ◌+◌, ◌*◌, ◌≤◌}
 use mathlib.Core.Path.{◌≡◌, sym, ap}
 use mathlib.Core.List.{List}
 use native.Mathlib.Omega.{arith}
+use Rattle.std.proofs.lemmas.Bool.Decides.{nat_tests}
 use lib.ListN.{length}
 use borrow.Author.Tests.{ltb-false}
 use Rattle.fields.specs.Answer.{Answer, gives}
@@ -10,7 +11,7 @@ use Rattle.fields.specs.declared.RecordNumber.{RecordNumber}
 use Rattle.fields.proofs.Cases.{not_first}
 use Rattle.fields.proofs.Answers.{refused-given, ended-given, the-given}
 use Rattle.list.specs.Entry.{entry_at, entry_of}
-use Rattle.list.specs.Listed.{Named, named, nameIn, listed_of}
+use Rattle.list.specs.Listed.{Named, named, name_in, listed_of}
 use Rattle.list.specs.declared.Entry.{Entry}
 
 -- it is the entry at byte 0 of the part, at least 26 bytes and its name long, and lies inside the part
@@ -24,17 +25,17 @@ pub record Given (rest : List ℕ) (e : Entry) : Type 0 where
 pub given : (rest : List ℕ) (base : RecordNumber) (place : ℕ) (e : Entry) → entry_of rest base place ≡ gives e → Given rest e
 unfolding entry_of
 given rest base place e g =
-    let a = not_first _ _ _ _ g ended-given in
-    let b = not_first _ _ _ _ a.1 refused-given in
-    let c = not_first _ _ _ _ b.1 refused-given in
-    let d = not_first _ _ _ _ c.1 refused-given in
-    let f = not_first _ _ _ _ d.1 ended-given in
-    let i = sym (the-given f.1) in
-    record { is = i; least = rw i (omega (arith, ltb-false)); name = rw i (omega (arith, ltb-false)); most = rw i (omega (arith, ltb-false)) }
+    let i : e ≡ entry_at rest = grind (arith, nat_tests) in
+    record {
+      is = i;
+      least = grind (arith, nat_tests);
+      name = grind (arith, nat_tests);
+      most = grind (arith, nat_tests);
+    }
 
 -- the header's answer, with the name that goes with it
 pub listed : (rest : List ℕ) (base : RecordNumber) (place : ℕ) {a : Answer Entry} {n : List ℕ}
-    → a ≡ entry_of rest base place → n ≡ nameIn rest a → named a n ≡ listed_of rest base place
+    → a ≡ entry_of rest base place → n ≡ name_in rest a → named a n ≡ listed_of rest base place
 unfolding listed_of
 listed rest base place {a} e h = rw (← e) (ap (named a) h)
 

@@ -10,10 +10,10 @@ use Rattle.list.specs.declared.EntryStep.{EntryStep}
 use Rattle.list.specs.declared.EntryStep.TheVariants as entry
 
 -- the answer of the list step, case by case
-abbrev pub toldEntry : EntryStep → Answer Entry
-toldEntry (entry.Given e) = gives e
-toldEntry entry.End = ends
-toldEntry (entry.Refused r) = refuses r
+abbrev pub told_entry : EntryStep → Answer Entry
+told_entry (entry.Given e) = gives e
+told_entry entry.End = ends
+told_entry (entry.Refused r) = refuses r
 
 -- "type u32, entry length u16, name length u8, name offset u8, lowest VCN u64, reference u64 (low 48 bits the record number), instance u16":
 -- AttributeTypeCode, RecordLength, AttributeNameLength, LowestVcn, SegmentReference (MFT_SEGMENT_REFERENCE, without its SequenceNumber), Reserved (the instance, by the Rust)

@@ -3,8 +3,8 @@
 
 ghost use Rattle.std.specs.Prelude.{◌≡◌, ◌+◌, ◌≤◌, length};
 ghost use Rattle.fields.specs.Answer.{refuses, refusal};
-ghost use Rattle.list.specs.Entry.{toldEntry, entry_at, entry_of};
-ghost use Rattle.list.specs.Listed.{nameOf, toldListed, listed_of};
+ghost use Rattle.list.specs.Entry.{told_entry, entry_at, entry_of};
+ghost use Rattle.list.specs.Listed.{name_of, told_listed, listed_of};
 
 use fields::inner::{u16_at, u32_at, u48_at, u64_at};
 use fields::{RecordNumber, Refusal, Vcn};
@@ -51,7 +51,7 @@ fn read_entry(rest: &[u8]) -> Entry
 }
 
 fn no_entry(n: u8, base: RecordNumber, place: usize) -> EntryStep
-    ensures { toldEntry result ≡ refuses (refusal n base place) }
+    ensures { told_entry result ≡ refuses (refusal n base place) }
 {
     EntryStep::Refused(Refusal {
         number: n,
@@ -62,7 +62,7 @@ fn no_entry(n: u8, base: RecordNumber, place: usize) -> EntryStep
 
 // The entry's header alone, for walks that do not look at names. A refusal is told with the base's number and the part's place.
 pub fn header(rest: &[u8], base: RecordNumber, place: usize) -> EntryStep
-    ensures { toldEntry result ≡ entry_of rest.now base place }
+    ensures { told_entry result ≡ entry_of rest.now base place }
 {
     let left = rest.len();
     if left == 0 {
@@ -88,7 +88,7 @@ pub fn header(rest: &[u8], base: RecordNumber, place: usize) -> EntryStep
 // The n bytes from byte 26 on, then zeros.
 fn name_of(rest: &[u8], n: usize) -> [u8; 510]
     requires { (n ≤ 510) × (26 + n ≤ length rest.now) }
-    ensures { result ≡ nameOf rest.now n }
+    ensures { result ≡ name_of rest.now n }
 {
     let mut name = [0u8; 510];
     name[0..n].copy_from_slice(&rest[26..26 + n]);
@@ -97,7 +97,7 @@ fn name_of(rest: &[u8], n: usize) -> [u8; 510]
 
 // The entry with its name; the name is zeros where no entry is given.
 pub fn step(rest: &[u8], base: RecordNumber, place: usize) -> Listed
-    ensures { toldListed result ≡ listed_of rest.now base place }
+    ensures { told_listed result ≡ listed_of rest.now base place }
 {
     let answer = header(rest, base, place);
     match answer {

@@ -8,53 +8,53 @@ use mathlib.Core.Option.{Option, none, some}
 use native.Mathlib.Omega.{arith}
 use lib.ListN.{length}
 use Rattle.fields.specs.Answer.{Answer, gives, refuses, refusal}
-use Rattle.fields.specs.Open.{isFile, checkFile}
+use Rattle.fields.specs.Open.{is_file, check_file}
 use Rattle.fields.specs.declared.RecordNumber.{RecordNumber}
 use Rattle.fields.specs.declared.Refusal.{Refusal}
 use Rattle.fields.proofs.Cases.{eq-y, eq-n, not-second, either}
 use Rattle.fields.proofs.Answers.{onward, halted, refused-given, the-given, back}
-use Rattle.table.specs.Check.{openTable}
-use Rattle.table.specs.Held.{recordOf}
-use Rattle.lookup.specs.Lookup.{soughtIn, filed, judged, lookupIn, lookupOf, found, viewed}
+use Rattle.table.specs.Check.{open_table}
+use Rattle.table.specs.Held.{record_of}
+use Rattle.lookup.specs.Lookup.{sought_in, filed, judged, lookup_in, lookup_of, found, viewed}
 use Rattle.table.specs.declared.Numbers.{Numbers}
 use Rattle.table.proofs.Sound.{Sound, sound, opened}
 use Rattle.table.proofs.Holds.{the-some, record-sized}
 
 -- check 2 of the record s, which is b
-pub not-filed : (w : RecordNumber) (s b : List ℕ) {r : Refusal} → refuses r ≡ checkFile s w → s ≡ b → refuses r ≡ filed w b
+pub not-filed : (w : RecordNumber) (s b : List ℕ) {r : Refusal} → refuses r ≡ check_file s w → s ≡ b → refuses r ≡ filed w b
 unfolding filed
-not-filed w s b e q = halted _ (e ∙ ap (λ (x : List ℕ). checkFile x w) q)
+not-filed w s b e q = halted _ (e ∙ ap (λ (x : List ℕ). check_file x w) q)
 
-pub is-filed : (w : RecordNumber) (s b : List ℕ) → gives tt ≡ checkFile s w → s ≡ b → gives b ≡ filed w b
+pub is-filed : (w : RecordNumber) (s b : List ℕ) → gives tt ≡ check_file s w → s ≡ b → gives b ≡ filed w b
 unfolding filed
-is-filed w s b e q = onward _ (e ∙ ap (λ (x : List ℕ). checkFile x w) q) refl
+is-filed w s b e q = onward _ (e ∙ ap (λ (x : List ℕ). check_file x w) q) refl
 
 -- a is the answer of check 2, in the record that the lookup finds
 module _ (base : List ℕ) (n : RecordNumber) (look : RecordNumber → Option (List ℕ)) (w : RecordNumber) (at : ℕ) {a : Answer (List ℕ)} where
-  from : (o : Option (List ℕ)) → o ≡ soughtIn base n look w → a ≡ judged w (refusal 17 n at) o → a ≡ lookupIn base n look w at
-  unfolding lookupIn
+  from : (o : Option (List ℕ)) → o ≡ sought_in base n look w → a ≡ judged w (refusal 17 n at) o → a ≡ lookup_in base n look w at
+  unfolding lookup_in
   from o e h = h ∙ ap (judged w (refusal 17 n at)) e
 
-  pub from-base : w.0 ≡ n.0 → a ≡ filed w base → a ≡ lookupIn base n look w at
-  unfolding soughtIn judged
+  pub from-base : w.0 ≡ n.0 → a ≡ filed w base → a ≡ lookup_in base n look w at
+  unfolding sought_in judged
   from-base e h = from (some base) (eq-y _ _ _ _ e refl) h
 
-  pub from-table : (w.0 ≡ n.0 → ⊥) → (b : List ℕ) → look w ≡ some b → a ≡ filed w b → a ≡ lookupIn base n look w at
-  unfolding soughtIn judged
+  pub from-table : (w.0 ≡ n.0 → ⊥) → (b : List ℕ) → look w ≡ some b → a ≡ filed w b → a ≡ lookup_in base n look w at
+  unfolding sought_in judged
   from-table e b l h = from (some b) (eq-n _ _ _ _ e (sym l)) h
 
-  pub from-none : (w.0 ≡ n.0 → ⊥) → look w ≡ none → a ≡ refuses (refusal 17 n at) → a ≡ lookupIn base n look w at
-  unfolding soughtIn judged
+  pub from-none : (w.0 ≡ n.0 → ⊥) → look w ≡ none → a ≡ refuses (refusal 17 n at) → a ≡ lookup_in base n look w at
+  unfolding sought_in judged
   from-none e l h = from none (eq-n _ _ _ _ e (sym l)) h
 
 -- behind the opening checks
 module _ (base : List ℕ) (n : RecordNumber) (t : List ℕ) (w : RecordNumber) (at : ℕ) where
-  pub by-opening : {r : Refusal} → refuses r ≡ openTable base n t → refuses r ≡ lookupOf base n t w at
-  unfolding lookupOf
+  pub by-opening : {r : Refusal} → refuses r ≡ open_table base n t → refuses r ≡ lookup_of base n t w at
+  unfolding lookup_of
   by-opening e = halted _ e
 
-  pub by-lookup : {h : Numbers} {a : Answer (List ℕ)} → gives h ≡ openTable base n t → a ≡ lookupIn base n (recordOf t) w at → a ≡ lookupOf base n t w at
-  unfolding lookupOf
+  pub by-lookup : {h : Numbers} {a : Answer (List ℕ)} → gives h ≡ open_table base n t → a ≡ lookup_in base n (record_of t) w at → a ≡ lookup_of base n t w at
+  unfolding lookup_of
   by-lookup e l = onward _ e l
 
 pub not_found : {r : Refusal} {a : Answer (List ℕ)} → refuses r ≡ a → refuses r ≡ found a
@@ -67,35 +67,35 @@ is_found e = onward _ e refl
 
 -- what a record that a lookup gives is: the one sought, and it passed check 2
 pub record Sought (base : List ℕ) (n : RecordNumber) (look : RecordNumber → Option (List ℕ)) (w : RecordNumber) (s : List ℕ) : Type 0 where
-  pub is : soughtIn base n look w ≡ some s
-  pub file : isFile s ≡ true
+  pub is : sought_in base n look w ≡ some s
+  pub file : is_file s ≡ true
 
-judged-given : (w : RecordNumber) (miss : Refusal) (s : List ℕ) (o : Option (List ℕ)) → judged w miss o ≡ gives s → (o ≡ some s) × (isFile s ≡ true)
-unfolding judged filed checkFile
+judged-given : (w : RecordNumber) (miss : Refusal) (s : List ℕ) (o : Option (List ℕ)) → judged w miss o ≡ gives s → (o ≡ some s) × (is_file s ≡ true)
+unfolding judged filed check_file
 judged-given w miss s none e = absurd (refused-given e)
 judged-given w miss s (some b) e =
-    let k = back (checkFile b w) _ s e in
+    let k = back (check_file b w) _ s e in
     let q : b ≡ s = the-given k.next in
-    (ap some q, subst (λ (x : List ℕ). isFile x ≡ true) q (not-second _ _ _ _ k.gave refused-given).0)
+    (ap some q, subst (λ (x : List ℕ). is_file x ≡ true) q (not-second _ _ _ _ k.gave refused-given).0)
 
 pub sought : (base : List ℕ) (n : RecordNumber) (look : RecordNumber → Option (List ℕ)) (w : RecordNumber) (at : ℕ) (s : List ℕ)
-    → lookupIn base n look w at ≡ gives s → Sought base n look w s
-unfolding lookupIn
-sought base n look w at s e = let k = judged-given w _ s (soughtIn base n look w) e in record { is = k.0; file = k.1 }
+    → lookup_in base n look w at ≡ gives s → Sought base n look w s
+unfolding lookup_in
+sought base n look w at s e = let k = judged-given w _ s (sought_in base n look w) e in record { is = k.0; file = k.1 }
 
 -- a record that is found has the table's record size, as the base record has
 pub found-sized : {t : List ℕ} {h : Numbers} → Sound t h → (base : List ℕ) (n w : RecordNumber) (at : ℕ) (s : List ℕ) → length base ≡ h.size
-    → lookupIn base n (recordOf t) w at ≡ gives s → length s ≡ h.size
-unfolding soughtIn
+    → lookup_in base n (record_of t) w at ≡ gives s → length s ≡ h.size
+unfolding sought_in
 found-sized k base n w at s l e =
     ⊎_elim (λ q. sym (ap length (the-some q)) ∙ l) (record-sized k w s) (either _ _ _ _ (sought base n _ w at s e).is)
 
 -- so the view of a record that is found is not empty
-pub view-full : (base : List ℕ) (n : RecordNumber) (t : List ℕ) (w : RecordNumber) (at : ℕ) (s : List ℕ) → lookupOf base n t w at ≡ gives s
-    → 64 ≤ length (viewed (lookupOf base n t w at))
-unfolding lookupOf viewed
+pub view-full : (base : List ℕ) (n : RecordNumber) (t : List ℕ) (w : RecordNumber) (at : ℕ) (s : List ℕ) → lookup_of base n t w at ≡ gives s
+    → 64 ≤ length (viewed (lookup_of base n t w at))
+unfolding lookup_of viewed
 view-full base n t w at s e =
-    let a = back (openTable base n t) _ s e in
+    let a = back (open_table base n t) _ s e in
     let o = opened base n t a.first a.gave in
     let k = sound t a.first o.table in
     let m = found-sized k base n w at s o.fits a.next in

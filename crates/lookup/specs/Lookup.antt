@@ -3,11 +3,11 @@ use Rattle.std.specs.Prelude.{ℕ, ◌<◌, ◌≡◌, List, [], eqb}
 use Rattle.std.proofs.Math.Option.{Option, none, some}
 use Rattle.fields.specs.Pick.{pick}
 use Rattle.fields.specs.Answer.{Answer, gives, ends, refuses, refusal, ◌⟫◌}
-use Rattle.fields.specs.Open.{checkFile}
+use Rattle.fields.specs.Open.{check_file}
 use Rattle.fields.specs.declared.RecordNumber.{RecordNumber}
 use Rattle.fields.specs.declared.Refusal.{Refusal}
-use Rattle.table.specs.Check.{openTable}
-use Rattle.table.specs.Held.{recordAt, recordOf}
+use Rattle.table.specs.Check.{open_table}
+use Rattle.table.specs.Held.{record_at, record_of}
 use Rattle.table.specs.declared.Numbers.{Numbers}
 use Rattle.lookup.specs.declared.Place.{Place}
 use Rattle.lookup.specs.declared.Place.TheVariants as place
@@ -17,12 +17,12 @@ use Rattle.lookup.specs.declared.Looked.{Looked}
 use Rattle.lookup.specs.declared.Looked.TheVariants as looked
 
 -- "the lent base record where the number is the base's, even if the table has it too"; look is the table's
-unfoldable pub soughtIn : List ℕ → RecordNumber → (RecordNumber → Option (List ℕ)) → RecordNumber → Option (List ℕ)
-soughtIn base n look wanted = pick (eqb wanted.0 n.0) (some base) (look wanted)
+unfoldable pub sought_in : List ℕ → RecordNumber → (RecordNumber → Option (List ℕ)) → RecordNumber → Option (List ℕ)
+sought_in base n look wanted = pick (eqb wanted.0 n.0) (some base) (look wanted)
 
 -- "The record must pass check 2"
 unfoldable pub filed : RecordNumber → List ℕ → Answer (List ℕ)
-filed wanted s = checkFile s wanted ⟫ λ _. gives s
+filed wanted s = check_file s wanted ⟫ λ _. gives s
 
 -- 17: "record not in table", in the record and at the place that the caller blames; then 2, in the record found
 unfoldable pub judged : RecordNumber → Refusal → Option (List ℕ) → Answer (List ℕ)
@@ -30,17 +30,17 @@ judged wanted miss none = refuses miss
 judged wanted miss (some s) = filed wanted s
 
 -- the lookup behind the opening checks: the record, 17 or 2
-unfoldable pub lookupIn : List ℕ → RecordNumber → (RecordNumber → Option (List ℕ)) → RecordNumber → ℕ → Answer (List ℕ)
-lookupIn base n look wanted at = judged wanted (refusal 17 n at) (soughtIn base n look wanted)
+unfoldable pub lookup_in : List ℕ → RecordNumber → (RecordNumber → Option (List ℕ)) → RecordNumber → ℕ → Answer (List ℕ)
+lookup_in base n look wanted at = judged wanted (refusal 17 n at) (sought_in base n look wanted)
 
 -- "Order: 21, 1, 2, .., then the steps"
-unfoldable pub lookupOf : List ℕ → RecordNumber → List ℕ → RecordNumber → ℕ → Answer (List ℕ)
-lookupOf base n t wanted at = openTable base n t ⟫ λ _. lookupIn base n (recordOf t) wanted at
+unfoldable pub lookup_of : List ℕ → RecordNumber → List ℕ → RecordNumber → ℕ → Answer (List ℕ)
+lookup_of base n t wanted at = open_table base n t ⟫ λ _. lookup_in base n (record_of t) wanted at
 
 -- the answer of the lookup, case by case; its record is handed out by the view
-abbrev pub toldLooked : Looked → Answer Unit
-toldLooked looked.Found = gives tt
-toldLooked (looked.Refused r) = refuses r
+abbrev pub told_looked : Looked → Answer Unit
+told_looked looked.Found = gives tt
+told_looked (looked.Refused r) = refuses r
 
 -- whether a record was found, without its bytes
 unfoldable pub found : Answer (List ℕ) → Answer Unit
@@ -53,14 +53,14 @@ viewed ends = []
 viewed (refuses r) = []
 
 -- the bytes at a place: the lent base record, or those of a row
-abbrev pub placeBytes : List ℕ → List ℕ → Numbers → Place → List ℕ
-placeBytes base t h place.Base = base
-placeBytes base t h (place.Row i) = recordAt t h i
+abbrev pub place_bytes : List ℕ → List ℕ → Numbers → Place → List ℕ
+place_bytes base t h place.Base = base
+place_bytes base t h (place.Row i) = record_at t h i
 
 -- the answer of the lookup that says where the record stands, case by case
-abbrev pub toldPlaced : List ℕ → List ℕ → Numbers → Placed → Answer (List ℕ)
-toldPlaced base t h (placed.At p) = gives (placeBytes base t h p)
-toldPlaced base t h (placed.Refused r) = refuses r
+abbrev pub told_placed : List ℕ → List ℕ → Numbers → Placed → Answer (List ℕ)
+told_placed base t h (placed.At p) = gives (place_bytes base t h p)
+told_placed base t h (placed.Refused r) = refuses r
 
 -- a row that a place names is one of the table's
 abbrev pub InTable : Numbers → Place → Type 0
@@ -73,5 +73,5 @@ Placing h (placed.Refused r) = Unit {0}
 
 -- what an answer that says where the record stands tells, and that it stands there
 pub record Stands (base t : List ℕ) (h : Numbers) (a : Answer (List ℕ)) (r : Placed) : Type 0 where
-  pub told : toldPlaced base t h r ≡ a
+  pub told : told_placed base t h r ≡ a
   pub inside : Placing h r

@@ -2,8 +2,8 @@
 ghost use Rattle.std.specs.Prelude.{◌≡◌, ◌+◌, ◌<◌};
 ghost use Rattle.fields.specs.Answer.{gives};
 ghost use Rattle.table.specs.Check.{table_of};
-ghost use Rattle.table.specs.Held.{recordAt, recordOf, toldRow, IsRow};
-ghost use Rattle.lookup.specs.Lookup.{placeBytes, filed, lookupIn, InTable, Stands};
+ghost use Rattle.table.specs.Held.{record_at, record_of, told_row, IsRow};
+ghost use Rattle.lookup.specs.Lookup.{place_bytes, filed, lookup_in, InTable, Stands};
 
 use crate::{Place, Placed};
 use fields::{Opened, RecordNumber, Refusal, check_file};
@@ -12,7 +12,7 @@ use table::{Numbers, Row, RowFound};
 // The row with a number, by halves: the numbers rise from row to row, so one look leaves out the rows before or behind it.
 pub fn row_of(t: &[u8], h: Numbers, wanted: RecordNumber) -> RowFound
     requires { table_of t.now ≡ gives h }
-    ensures { IsRow t.now h wanted (toldRow result) }
+    ensures { IsRow t.now h wanted (told_row result) }
 {
     let mut from: usize = 0;
     let mut to = h.count as usize;
@@ -34,7 +34,7 @@ pub fn row_of(t: &[u8], h: Numbers, wanted: RecordNumber) -> RowFound
 // The record of row i, a part of the table.
 pub fn record_at<'a>(t: &'a [u8], h: Numbers, i: usize) -> &'a [u8]
     requires { (table_of t.now ≡ gives h) × (i < h.count) }
-    ensures { result.now ≡ recordAt t.now h i }
+    ensures { result.now ≡ record_at t.now h i }
 {
     let r = table::inner::row_at(t, h, i);
     let from = r.offset as usize;
@@ -45,7 +45,7 @@ pub fn record_at<'a>(t: &'a [u8], h: Numbers, i: usize) -> &'a [u8]
 // The record at a place: the lent base record, or a part of the table.
 pub fn part<'a>(base: &'a [u8], t: &'a [u8], h: Numbers, p: Place) -> &'a [u8]
     requires { (table_of t.now ≡ gives h) × InTable h p }
-    ensures { result.now ≡ placeBytes base.now t.now h p }
+    ensures { result.now ≡ place_bytes base.now t.now h p }
 {
     match p {
         Place::Base => base,
@@ -56,7 +56,7 @@ pub fn part<'a>(base: &'a [u8], t: &'a [u8], h: Numbers, p: Place) -> &'a [u8]
 // The record at a place where it passes check 2.
 fn judge<'a>(base: &'a [u8], t: &'a [u8], h: Numbers, p: Place, wanted: RecordNumber) -> Placed
     requires { (table_of t.now ≡ gives h) × InTable h p }
-    ensures { Stands base.now t.now h (filed wanted (placeBytes base.now t.now h p)) result }
+    ensures { Stands base.now t.now h (filed wanted (place_bytes base.now t.now h p)) result }
 {
     let s = part(base, t, h, p);
     let o = check_file(s, wanted);
@@ -77,7 +77,7 @@ pub fn lookup<'a>(
     at: usize,
 ) -> Placed
     requires { table_of t.now ≡ gives h }
-    ensures { Stands base.now t.now h (lookupIn base.now number (recordOf t.now) wanted at) result }
+    ensures { Stands base.now t.now h (lookup_in base.now number (record_of t.now) wanted at) result }
 {
     if wanted.0 == number.0 {
         return judge(base, t, h, Place::Base, wanted);

@@ -4,7 +4,7 @@
 pub mod inner;
 
 ghost use Rattle.std.specs.Prelude.{◌≡◌};
-ghost use Rattle.lookup.specs.Lookup.{toldLooked, found, viewed, lookupOf};
+ghost use Rattle.lookup.specs.Lookup.{told_looked, found, viewed, lookup_of};
 
 use fields::{RecordNumber, Refusal};
 use table::{Tested, opening};
@@ -38,7 +38,7 @@ pub fn lookup<'a>(
     wanted: RecordNumber,
     at: usize,
 ) -> Looked
-    ensures { toldLooked result ≡ found (lookupOf base.now number t.now wanted at) }
+    ensures { told_looked result ≡ found (lookup_of base.now number t.now wanted at) }
 {
     let a = opening(base, number, t);
     match a {
@@ -61,7 +61,7 @@ pub fn lookup_view<'a>(
     wanted: RecordNumber,
     at: usize,
 ) -> &'a [u8]
-    ensures { result.now ≡ viewed (lookupOf base.now number t.now wanted at) }
+    ensures { result.now ≡ viewed (lookup_of base.now number t.now wanted at) }
 {
     let a = opening(base, number, t);
     match a {

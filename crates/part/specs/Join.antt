@@ -2,7 +2,7 @@
 use Rattle.std.specs.Prelude.{ℕ, List, eqb}
 use Rattle.fields.specs.Pick.{pick}
 use Rattle.fields.specs.Answer.{Answer, gives, ends, refuses, refusal}
-use Rattle.fields.specs.Known.{knownType}
+use Rattle.fields.specs.Known.{known_type}
 use Rattle.fields.specs.declared.RecordNumber.{RecordNumber}
 use Rattle.list.specs.declared.Entry.{Entry}
 use Rattle.turns.specs.Key.{key_of}
@@ -11,18 +11,18 @@ use Rattle.part.specs.declared.Joined.{Joined}
 use Rattle.part.specs.declared.Joined.TheVariants as joined
 
 -- the answer of the judge, case by case
-abbrev pub toldJoined : Joined → Answer Unit
-toldJoined joined.On = gives tt
-toldJoined joined.End = ends
-toldJoined (joined.Refused r) = refuses r
+abbrev pub told_joined : Joined → Answer Unit
+told_joined joined.On = gives tt
+told_joined joined.End = ends
+told_joined (joined.Refused r) = refuses r
 
 -- "those directly after it while instance and type agree. Where the instance agrees and the type is unknown: 6"
-unfoldable pub judgePart : Key → Entry → List ℕ → RecordNumber → ℕ → Answer Unit
-judgePart k e part n place =
+unfoldable pub judge_part : Key → Entry → List ℕ → RecordNumber → ℕ → Answer Unit
+judge_part k e part n place =
     pick (eqb e.instance k.instance)
-    (pick (knownType e.ty) (pick (eqb e.ty k.ty) (gives tt) ends) (refuses (refusal 6 n place)))
+    (pick (known_type e.ty) (pick (eqb e.ty k.ty) (gives tt) ends) (refuses (refusal 6 n place)))
     ends
 
 -- the key is the first entry's own, and then stays: "that entry and those directly after it"
-unfoldable pub keyFor : Key → Entry → List ℕ → Key
-keyFor k e part = pick k.is k (key_of e part)
+unfoldable pub key_for : Key → Entry → List ℕ → Key
+key_for k e part = pick k.is k (key_of e part)

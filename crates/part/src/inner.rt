@@ -2,12 +2,12 @@
 ghost use Rattle.std.specs.Prelude.{◌≡◌, ◌+◌, ◌≤◌, length};
 ghost use Rattle.fields.specs.Answer.{refuses, refusal};
 ghost use Rattle.raw.specs.Attribute.{Inside};
-ghost use Rattle.raw.specs.Find.{findOf};
-ghost use Rattle.values.specs.Value.{nonResident};
-ghost use Rattle.table.specs.Held.{recordOf};
+ghost use Rattle.raw.specs.Find.{find_of};
+ghost use Rattle.values.specs.Value.{non_resident};
+ghost use Rattle.table.specs.Held.{record_of};
 ghost use Rattle.turns.specs.State.{Ready};
-ghost use Rattle.part.specs.Join.{toldJoined, judgePart, keyFor};
-ghost use Rattle.part.specs.Part.{toldRead, toldPart, partAfter, partIn, partFound, part_of};
+ghost use Rattle.part.specs.Join.{told_joined, judge_part, key_for};
+ghost use Rattle.part.specs.Part.{told_read, told_part, part_after, part_in, part_found, part_of};
 
 use crate::{Joined, Part, PartFound, PartRead};
 use fields::{RecordNumber, Refusal, known_type};
@@ -20,7 +20,7 @@ use turns::inner::key_of;
 use values::{FullHeader, NonResidentHeader, Valued};
 
 fn no_part(n: u8, number: RecordNumber, place: usize) -> PartRead
-    ensures { toldRead result ≡ refuses (refusal n number place) }
+    ensures { told_read result ≡ refuses (refusal n number place) }
 {
     PartRead::Refused(Refusal {
         number: n,
@@ -31,7 +31,7 @@ fn no_part(n: u8, number: RecordNumber, place: usize) -> PartRead
 
 // Whether an entry goes on with the stream of a key. The part that begins at the entry is there for keys that hold a name.
 pub fn judge_part(key: Key, e: Entry, part: &[u8], number: RecordNumber, place: usize) -> Joined
-    ensures { toldJoined result ≡ judgePart key e part.now number place }
+    ensures { told_joined result ≡ judge_part key e part.now number place }
 {
     if e.instance == key.instance {
         if known_type(e.ty) {
@@ -52,7 +52,7 @@ pub fn judge_part(key: Key, e: Entry, part: &[u8], number: RecordNumber, place: 
 // The part of a non-resident attribute, behind 7: 12.
 fn part_after(e: Entry, h: Attribute, f: NonResidentHeader) -> PartRead
     requires { h.offset + h.length ≤ 4096 }
-    ensures { toldRead result ≡ partAfter e h (nonResident f) }
+    ensures { told_read result ≡ part_after e h (non_resident f) }
 {
     let file = e.file;
     let listed = e.lowest;
@@ -82,7 +82,7 @@ fn part_after(e: Entry, h: Attribute, f: NonResidentHeader) -> PartRead
 // The part of an attribute that was found: 19, then 7, then 12.
 fn part_in(t: &[u8], e: Entry, h: Attribute) -> PartRead
     requires { Inside t.now h }
-    ensures { toldRead result ≡ partIn t.now e h }
+    ensures { told_read result ≡ part_in t.now e h }
 {
     if h.resident {
         return no_part(19, e.file, h.offset);
@@ -98,7 +98,7 @@ fn part_in(t: &[u8], e: Entry, h: Attribute) -> PartRead
 // The search in a record that was looked up, and the part where it finds the attribute.
 fn part_found(t: &[u8], number: RecordNumber, e: Entry, place: usize) -> PartFound
     requires { length t.now ≤ 4096 }
-    ensures result_value { toldPart result ≡ partFound t.now e (findOf t.now e.file e.ty e.instance (refusal 18 number place)) }
+    ensures result_value { told_part result ≡ part_found t.now e (find_of t.now e.file e.ty e.instance (refusal 18 number place)) }
     ensures reads_bound { result.reads ≤ 256 }
 {
     let f = raw::inner::find(t, e.file, e.ty, e.instance, number, place);
@@ -126,7 +126,7 @@ pub fn part_of<'a>(
     place: usize,
 ) -> PartFound
     requires { Ready base.now t.now h }
-    ensures result_value { toldPart result ≡ part_of base.now number (recordOf t.now) e place }
+    ensures result_value { told_part result ≡ part_of base.now number (record_of t.now) e place }
     ensures reads_bound { result.reads ≤ 256 }
 {
     let p = lookup::inner::lookup(base, number, t, h, e.file, place);
@@ -140,7 +140,7 @@ pub fn part_of<'a>(
 }
 
 pub fn key_for(key: Key, e: Entry, part: &[u8]) -> Key
-    ensures { result ≡ keyFor key e part.now }
+    ensures { result ≡ key_for key e part.now }
 {
     if key.is {
         return key;

@@ -15,19 +15,19 @@ use Rattle.fields.proofs.Cases.{not-second}
 use Rattle.list.specs.Entry.{entry_of}
 use Rattle.list.specs.declared.Entry.{Entry}
 use Rattle.list.proofs.Given as entries
-use Rattle.turns.specs.State.{noKey, part_of as listPart}
+use Rattle.turns.specs.State.{no_key, part_of as listPart}
 use Rattle.turns.specs.declared.Rest.{Rest}
 use Rattle.turns.proofs.Turns.{entry-inside}
-use Rattle.part.specs.Join.{keyFor}
-use Rattle.parts.specs.Parts.{Stepped, lists, stops, toldKind, toldTurn, cursor, cursorPast, stepAfter, stepPart, stepJoined, stepKeyed, stepEntered, stepIn, Listing, listing, partsAfter, partsRun, partsFrom, filled}
+use Rattle.part.specs.Join.{key_for}
+use Rattle.parts.specs.Parts.{Stepped, lists, stops, told_kind, told_turn, cursor, cursor_past, step_after, step_part, step_joined, step_keyed, step_entered, step_in, Listing, listing, parts_after, parts_run, parts_from, filled}
 use Rattle.part.specs.declared.Part.{Part}
 use Rattle.parts.specs.declared.Cursor.{Cursor}
 use Rattle.parts.specs.declared.PartKind.{PartKind}
 use Rattle.parts.specs.declared.PartTurn.{PartTurn}
 
 -- a step, told by what the match on its kind found
-pub made : (t : PartTurn) {k : PartKind} → t.kind ≡ k → toldTurn t ≡ toldKind k t.next t.reads
-made t e = ap (λ (k : PartKind). toldKind k t.next t.reads) e
+pub made : (t : PartTurn) {k : PartKind} → t.kind ≡ k → told_turn t ≡ told_kind k t.next t.reads
+made t e = ap (λ (k : PartKind). told_kind k t.next t.reads) e
 
 -- what is left of a cursor's list
 abbrev pub left : Cursor → ℕ
@@ -36,8 +36,8 @@ left c = c.list.to - c.list.from
 stops-lists : {a : Answer Unit} {k r : ℕ} {p : Part} {c : Cursor} → stops a k ≡ lists p c r → ⊥
 stops-lists e = let z : ◌≡◌ {A = ℕ} 0 1 = cc in omega arith
 
-after_next : (next c : Cursor) (a : Answer Part) (k r : ℕ) (p : Part) → stepAfter next a k ≡ lists p c r → next ≡ c
-unfolding stepAfter
+after_next : (next c : Cursor) (a : Answer Part) (k r : ℕ) (p : Part) → step_after next a k ≡ lists p c r → next ≡ c
+unfolding step_after
 after_next next c (gives q) k r p e = cc
 after_next next c ends k r p e = absurd (stops-lists e)
 after_next next c (refuses q) k r p e = absurd (stops-lists e)
@@ -51,8 +51,8 @@ module _ (s : List ℕ) (n : RecordNumber) (look : RecordNumber → Option (List
     pub same : d.list.to ≡ c.list.to
 
   joined-goes : (k : ℕ) (c next d : Cursor) (e : Entry) (place : ℕ) (j : Answer Unit) (p : Part) (r : ℕ) → (k < room → next ≡ d → Goes k c d)
-      → stepJoined s n look room k next e place j ≡ lists p d r → Goes k c d
-  unfolding stepJoined stepPart
+      → step_joined s n look room k next e place j ≡ lists p d r → Goes k c d
+  unfolding step_joined step_part
   joined-goes k c next d e place (gives u) p r f g =
       let t = not-second _ _ _ _ g stops-lists in
       f (ltb-true _ _ t.0) (after_next next d _ _ r p t.1)
@@ -60,36 +60,36 @@ module _ (s : List ℕ) (n : RecordNumber) (look : RecordNumber → Option (List
   joined-goes k c next d e place (refuses q) p r f g = absurd (stops-lists g)
 
   entered-goes : (k : ℕ) (c d : Cursor) (p : Part) (r : ℕ) (a : Answer Entry) → entry_of (listPart s c.list) n c.list.from ≡ a
-      → stepEntered s n look room k c (listPart s c.list) a ≡ lists p d r → Goes k c d
-  unfolding stepEntered stepKeyed
+      → step_entered s n look room k c (listPart s c.list) a ≡ lists p d r → Goes k c d
+  unfolding step_entered step_keyed
   entered-goes k c d p r ends h g = absurd (stops-lists g)
   entered-goes k c d p r (refuses q) h g = absurd (stops-lists g)
   entered-goes k c d p r (gives e) h g =
       let w = entries.given (listPart s c.list) n c.list.from e h in
       let i = entry-inside s c.list e w in
       let z = w.least in
-      joined-goes k c (cursorPast c e (keyFor c.key e (listPart s c.list))) d e c.list.from _ p r
+      joined-goes k c (cursor_past c e (key_for c.key e (listPart s c.list))) d e c.list.from _ p r
       (λ f q. subst (Goes k c) q (record { fits = f; less = omega arith; order = i; same = refl })) g
 
-  pub goes : (k : ℕ) (c d : Cursor) (p : Part) (r : ℕ) → stepIn s n look room k c ≡ lists p d r → Goes k c d
-  unfolding stepIn
+  pub goes : (k : ℕ) (c d : Cursor) (p : Part) (r : ℕ) → step_in s n look room k c ≡ lists p d r → Goes k c d
+  unfolding step_in
   goes k c d p r g = entered-goes k c d p r (entry_of (listPart s c.list) n c.list.from) refl g
 
   -- more steps change nothing
-  turned : (f g k : ℕ) (c : Cursor) → ((d : Cursor) → left d < f → left d < g → partsRun s n look room f (k + 1) d ≡ partsRun s n look room g (k + 1) d)
-      → (x : Stepped) → stepIn s n look room k c ≡ x → left c < suc f → left c < suc g
-      → partsAfter (partsRun s n look room f (k + 1)) x ≡ partsAfter (partsRun s n look room g (k + 1)) x
-  unfolding partsAfter
+  turned : (f g k : ℕ) (c : Cursor) → ((d : Cursor) → left d < f → left d < g → parts_run s n look room f (k + 1) d ≡ parts_run s n look room g (k + 1) d)
+      → (x : Stepped) → step_in s n look room k c ≡ x → left c < suc f → left c < suc g
+      → parts_after (parts_run s n look room f (k + 1)) x ≡ parts_after (parts_run s n look room g (k + 1)) x
+  unfolding parts_after
   turned f g k c ih (stops a r) e h h' = refl
   turned f g k c ih (lists p d r) e h h' =
       let w = (goes k c d p r e).less in
-      ap (λ (l : Listing). partsAfter (λ _. l) (lists p d r)) (ih d (omega arith) (omega arith))
+      ap (λ (l : Listing). parts_after (λ _. l) (lists p d r)) (ih d (omega arith) (omega arith))
 
-  pub enough : (f g k : ℕ) (c : Cursor) → left c < f → left c < g → partsRun s n look room f k c ≡ partsRun s n look room g k c
-  unfolding partsRun
+  pub enough : (f g k : ℕ) (c : Cursor) → left c < f → left c < g → parts_run s n look room f k c ≡ parts_run s n look room g k c
+  unfolding parts_run
   enough zero g k c h h' = absurd (not-suc-le-zero h)
   enough (suc f) zero k c h h' = absurd (not-suc-le-zero h')
-  enough (suc f) (suc g) k c h h' = turned f g k c (enough f g (k + 1)) (stepIn s n look room k c) refl h h'
+  enough (suc f) (suc g) k c h h' = turned f g k c (enough f g (k + 1)) (step_in s n look room k c) refl h h'
 
   -- parts listed before, with what was read for them
   abbrev onto : List Part → ℕ → Listing → Listing
@@ -105,7 +105,7 @@ module _ (s : List ℕ) (n : RecordNumber) (look : RecordNumber → Option (List
 
   -- a list being filled: `count` parts stand in front, and from c on the rest follows
   pub record Filling (l : Rest) (before parts : List Part) (count reads : ℕ) (c : Cursor) : Type 0 where
-    pub whole : partsFrom s n look room l ≡ onto (take count parts) reads (partsRun s n look room (suc (left c)) count c)
+    pub whole : parts_from s n look room l ≡ onto (take count parts) reads (parts_run s n look room (suc (left c)) count c)
     pub tail : drop count parts ≡ drop count before
     pub size : length parts ≡ length before
     pub most : count ≤ length before
@@ -113,10 +113,10 @@ module _ (s : List ℕ) (n : RecordNumber) (look : RecordNumber → Option (List
     pub same : c.list.to ≡ l.to
     pub few : reads + 257 * left c ≤ 257 * (l.to - l.from)
 
-  pub begun : (l : Rest) (before : List Part) → l.from ≤ l.to → Filling l before before 0 0 (cursor l noKey)
-  unfolding partsFrom
+  pub begun : (l : Rest) (before : List Part) → l.from ≤ l.to → Filling l before before 0 0 (cursor l no_key)
+  unfolding parts_from
   begun l before o = record {
-    whole = onto-none (partsRun s n look room (suc (l.to - l.from)) 0 (cursor l noKey));
+    whole = onto-none (parts_run s n look room (suc (l.to - l.from)) 0 (cursor l no_key));
     tail = refl;
     size = refl;
     most = omega arith;
@@ -126,10 +126,10 @@ module _ (s : List ℕ) (n : RecordNumber) (look : RecordNumber → Option (List
   }
 
   module _ (l : Rest) (before parts : List Part) (count reads : ℕ) (c : Cursor) (h : Filling l before parts count reads c) where
-    pub stopped : (a : Answer Unit) (k : ℕ) → stepIn s n look room count c ≡ stops a k → partsFrom s n look room l ≡ listing (take count parts) a (reads + k)
-    unfolding partsRun partsAfter
+    pub stopped : (a : Answer Unit) (k : ℕ) → step_in s n look room count c ≡ stops a k → parts_from s n look room l ≡ listing (take count parts) a (reads + k)
+    unfolding parts_run parts_after
     stopped a k e =
-        h.whole ∙ ap (λ (x : Stepped). onto (take count parts) reads (partsAfter (partsRun s n look room (left c) (count + 1)) x)) e
+        h.whole ∙ ap (λ (x : Stepped). onto (take count parts) reads (parts_after (parts_run s n look room (left c) (count + 1)) x)) e
         ∙ ap (λ (ps : List Part). listing ps a (reads + k)) (append-nil (take count parts))
 
     -- the parts collected are those of the definition, the tail as it was
@@ -140,19 +140,19 @@ module _ (s : List ℕ) (n : RecordNumber) (look : RecordNumber → Option (List
         sym (take-append-drop count parts) ∙ ap (λ (t : List Part). take count parts ++ t) h.tail
         ∙ ap (λ (k : ℕ). take count parts ++ drop k before) (sym (length-take-le count parts (omega arith)))
 
-    pub more : (p : Part) (d : Cursor) (k : ℕ) → stepIn s n look room count c ≡ lists p d k → k ≤ 257 → room ≤ length before
+    pub more : (p : Part) (d : Cursor) (k : ℕ) → step_in s n look room count c ≡ lists p d k → k ≤ 257 → room ≤ length before
         → Filling l before (set parts count p) (count + 1) (reads + k) d
-    unfolding partsRun partsAfter
+    unfolding parts_run parts_after
     more p d k e f m =
         let w = goes count c d p k e in
         let z = h.size in let u = h.few in
         let a = w.fits in let b = w.less in
         let x : count < length parts = omega arith in
         let taken = stored parts count p x in
-        let on = partsRun s n look room (left c) (count + 1) d in
+        let on = parts_run s n look room (left c) (count + 1) d in
         record {
           whole =
-              h.whole ∙ ap (λ (y : Stepped). onto (take count parts) reads (partsAfter (partsRun s n look room (left c) (count + 1)) y)) e
+              h.whole ∙ ap (λ (y : Stepped). onto (take count parts) reads (parts_after (parts_run s n look room (left c) (count + 1)) y)) e
               ∙ onto-more (take count parts) p reads k on
               ∙ ap (λ (ps : List Part). onto ps (reads + k) on) (sym taken)
               ∙ ap (onto (take (count + 1) (set parts count p)) (reads + k)) (enough (left c) (suc (left d)) (count + 1) d b (omega arith));

@@ -1,9 +1,9 @@
 // One part after another, for callers that made the opening checks.
 ghost use Rattle.std.specs.Prelude.{◌≡◌, ◌+◌, ◌≤◌, length};
-ghost use Rattle.table.specs.Held.{recordOf};
+ghost use Rattle.table.specs.Held.{record_of};
 ghost use Rattle.turns.specs.State.{Ready};
-ghost use Rattle.part.specs.Part.{toldPart};
-ghost use Rattle.parts.specs.Parts.{toldEnded, toldTurn, stops, stepPart, stepKeyed, stepIn, partsFrom, no_part, blankParts, Collects};
+ghost use Rattle.part.specs.Part.{told_part};
+ghost use Rattle.parts.specs.Parts.{told_ended, told_turn, stops, step_part, step_keyed, step_in, parts_from, no_part, blank_parts, Collects};
 
 use crate::{Collected, Cursor, Ended, PartKind, PartTurn};
 use fields::{RecordNumber, Refusal, Vcn};
@@ -15,7 +15,7 @@ use turns::{Key, Rest};
 use values::Span;
 
 fn stop(a: Ended, next: Cursor, reads: u64) -> PartTurn
-    ensures result_value { toldTurn result ≡ stops (toldEnded a) reads }
+    ensures result_value { told_turn result ≡ stops (told_ended a) reads }
     ensures reads_value { result.reads ≡ reads }
 {
     let kind = PartKind::Stops(a);
@@ -25,7 +25,7 @@ fn stop(a: Ended, next: Cursor, reads: u64) -> PartTurn
 // The part of an entry that goes on with the stream, and where the next step begins.
 fn step_part(f: PartFound, next: Cursor) -> PartTurn
     requires { f.reads ≤ 256 }
-    ensures result_value { toldTurn result ≡ stepPart next (toldPart f) }
+    ensures result_value { told_turn result ≡ step_part next (told_part f) }
     ensures reads_bound { result.reads ≤ 257 }
 {
     let reads = f.reads + 1;
@@ -54,7 +54,7 @@ fn step_keyed<'a>(
 ) -> PartTurn
     requires ready { Ready base.now t.now h }
     requires length_bound { (c.list.from + e.length ≤ c.list.to) × (c.list.to ≤ length base.now) }
-    ensures result_value { toldTurn result ≡ stepKeyed base.now number (recordOf t.now) room k c e part.now key }
+    ensures result_value { told_turn result ≡ step_keyed base.now number (record_of t.now) room k c e part.now key }
     ensures reads_bound { result.reads ≤ 257 }
 {
     let place = c.list.from;
@@ -94,7 +94,7 @@ pub fn step<'a>(
 ) -> PartTurn
     requires ready { Ready base.now t.now h }
     requires from_le_to { (c.list.from ≤ c.list.to) × (c.list.to ≤ length base.now) }
-    ensures result_value { toldTurn result ≡ stepIn base.now number (recordOf t.now) room k c }
+    ensures result_value { told_turn result ≡ step_in base.now number (record_of t.now) room k c }
     ensures reads_bound { result.reads ≤ 257 }
 {
     let from = c.list.from;
@@ -135,7 +135,7 @@ pub fn collect<'a>(
 ) -> Collected
     requires ready { Ready base.now t.now h }
     requires from_le_to { (l.from ≤ l.to) × (l.to ≤ length base.now) }
-    ensures { Collects (partsFrom base.now number (recordOf t.now) 157 l) blankParts result }
+    ensures { Collects (parts_from base.now number (record_of t.now) 157 l) blank_parts result }
 {
     let none = blank();
     let mut parts = [none; 157];

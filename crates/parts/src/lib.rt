@@ -3,7 +3,7 @@
 
 pub mod inner;
 
-ghost use Rattle.parts.specs.Parts.{listing, toldEnded, parts_of, blankParts, Collects};
+ghost use Rattle.parts.specs.Parts.{listing, told_ended, parts_of, blank_parts, Collects};
 ghost use Rattle.std.specs.Prelude.{[]};
 
 use fields::{Opened, RecordNumber, Refusal};
@@ -51,7 +51,7 @@ pub struct Collected {
 }
 
 fn none(answer: Ended) -> Collected
-    ensures { Collects (listing [] (toldEnded answer) 0) blankParts result }
+    ensures { Collects (listing [] (told_ended answer) 0) blank_parts result }
 {
     let blank = inner::blank();
     Collected {
@@ -64,7 +64,7 @@ fn none(answer: Ended) -> Collected
 
 // The parts of an item, from its list on: 21, 1, 2 and 22 first. An item without a list has none. Room for 157 is room for every list of a record.
 pub fn collect<'a>(base: &'a [u8], number: RecordNumber, t: &'a [u8], l: Rest) -> Collected
-    ensures { Collects (parts_of base.now number t.now 157 l) blankParts result }
+    ensures { Collects (parts_of base.now number t.now 157 l) blank_parts result }
 {
     let a = table::opening(base, number, t);
     match a {

@@ -1,9 +1,9 @@
 // The same steps without the opening checks, for callers that made them, and finding an attribute by type and instance.
 ghost use Rattle.std.specs.Prelude.{◌≡◌, ◌+◌, ◌≤◌, length};
 ghost use Rattle.fields.specs.Answer.{refuses, refusal};
-ghost use Rattle.raw.specs.Attribute.{toldChecked, attributeAt, checkedAt};
-ghost use Rattle.raw.specs.Step.{toldStep, stepAt};
-ghost use Rattle.raw.specs.Find.{toldFound, isIt, findOf};
+ghost use Rattle.raw.specs.Attribute.{told_checked, attribute_at, checked_at};
+ghost use Rattle.raw.specs.Step.{told_step, step_at};
+ghost use Rattle.raw.specs.Find.{told_found, is_it, find_of};
 
 use crate::{Attribute, Checked, Found, RawStep};
 use fields::inner::{u16_at, u32_at};
@@ -11,7 +11,7 @@ use fields::{RecordNumber, Refusal};
 
 fn read_attribute(s: &[u8], at: usize) -> Attribute
     requires { at + 16 ≤ length s.now }
-    ensures { result ≡ attributeAt s.now at }
+    ensures { result ≡ attribute_at s.now at }
 {
     Attribute {
         offset: at,
@@ -26,7 +26,7 @@ fn read_attribute(s: &[u8], at: usize) -> Attribute
 }
 
 fn no_attribute(n: u8, number: RecordNumber, place: usize) -> Checked
-    ensures { toldChecked result ≡ refuses (refusal n number place) }
+    ensures { told_checked result ≡ refuses (refusal n number place) }
 {
     Checked::Refused(Refusal {
         number: n,
@@ -37,7 +37,7 @@ fn no_attribute(n: u8, number: RecordNumber, place: usize) -> Checked
 
 // Checks 3, 4 and 5: the one place where they are made.
 pub fn checked_at(s: &[u8], number: RecordNumber, at: usize) -> Checked
-    ensures { toldChecked result ≡ checkedAt s.now number at }
+    ensures { told_checked result ≡ checked_at s.now number at }
 {
     if s.len() < at {
         return no_attribute(3, number, at);
@@ -58,7 +58,7 @@ pub fn checked_at(s: &[u8], number: RecordNumber, at: usize) -> Checked
 
 // One step of the raw walk at any place.
 pub fn step(s: &[u8], number: RecordNumber, at: usize) -> RawStep
-    ensures { toldStep result ≡ stepAt s.now number at }
+    ensures { told_step result ≡ step_at s.now number at }
 {
     if s.len() < at {
         return RawStep::End;
@@ -77,7 +77,7 @@ pub fn step(s: &[u8], number: RecordNumber, at: usize) -> RawStep
 }
 
 fn is_it(h: Attribute, ty: u32, instance: u16) -> bool
-    ensures { result ≡ isIt h ty instance }
+    ensures { result ≡ is_it h ty instance }
 {
     if h.ty == ty {
         return h.instance == instance;
@@ -94,7 +94,7 @@ pub fn find(
     base: RecordNumber,
     entry: usize,
 ) -> Found
-    ensures { toldFound result ≡ findOf s.now number ty instance (refusal 18 base entry) }
+    ensures { told_found result ≡ find_of s.now number ty instance (refusal 18 base entry) }
 {
     let mut at = fields::first_attribute(s);
     let mut reads: u64 = 0;

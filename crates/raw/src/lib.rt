@@ -4,8 +4,8 @@
 pub mod inner;
 
 ghost use Rattle.std.specs.Prelude.{◌≡◌};
-ghost use Rattle.raw.specs.Attribute.{toldChecked, attributeOf};
-ghost use Rattle.raw.specs.Step.{toldStep, step_of};
+ghost use Rattle.raw.specs.Attribute.{told_checked, attribute_of};
+ghost use Rattle.raw.specs.Step.{told_step, step_of};
 
 use fields::{Opened, RecordNumber, Refusal, opening};
 
@@ -47,7 +47,7 @@ pub struct Found {
 
 // One step of the raw walk at any place: checks 1 and 2, then the attribute there, the end, or 3 to 5.
 pub fn step(s: &[u8], number: RecordNumber, at: usize) -> RawStep
-    ensures { toldStep result ≡ step_of s.now number at }
+    ensures { told_step result ≡ step_of s.now number at }
 {
     let o = opening(s, number);
     match o {
@@ -58,7 +58,7 @@ pub fn step(s: &[u8], number: RecordNumber, at: usize) -> RawStep
 
 // The attribute at an offset, behind checks 1 to 5.
 pub fn attribute_at(s: &[u8], number: RecordNumber, at: usize) -> Checked
-    ensures { toldChecked result ≡ attributeOf s.now number at }
+    ensures { told_checked result ≡ attribute_of s.now number at }
 {
     let o = opening(s, number);
     match o {

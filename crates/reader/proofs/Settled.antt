@@ -5,7 +5,7 @@ use mathlib.Core.List.{List}
 use denote.Ref.{Bor}
 use Rattle.fields.specs.Answer.{Answer}
 use Rattle.fields.specs.declared.RecordNumber.{RecordNumber}
-use Rattle.raw.specs.Step.{toldStep}
+use Rattle.raw.specs.Step.{told_step}
 use Rattle.raw.specs.declared.Attribute.{Attribute}
 use Rattle.raw.specs.declared.RawStep.{RawStep}
 use Rattle.raw.proofs.Settled.{step-settled}
@@ -46,5 +46,5 @@ took-settled {h} {r} {t} {x} {y} p q =
     (step-settled {r = x} {t = y} p.answer q.answer, same r t (p.bytes ∙ sym q.bytes) (p.number ∙ sym q.number) (p.place ∙ sym q.place))
 
 -- `taken`
-pub taken-settled : {r t : RawStep} {a : Answer Attribute} → toldStep r ≡ a → toldStep t ≡ a → r ≡ t
+pub taken-settled : {r t : RawStep} {a : Answer Attribute} → told_step r ≡ a → told_step t ≡ a → r ≡ t
 taken-settled p q = step-settled p q

@@ -9,11 +9,11 @@ use Rattle.fields.specs.Answer.{Answer, gives, ends, refuses}
 use Rattle.fields.specs.declared.RecordNumber.{RecordNumber}
 use Rattle.fields.specs.declared.Refusal.{Refusal}
 use Rattle.raw.specs.Attribute.{Inside}
-use Rattle.raw.specs.Step.{toldStep, step_of}
+use Rattle.raw.specs.Step.{told_step, step_of}
 use Rattle.raw.specs.declared.Attribute.{Attribute}
 use Rattle.raw.specs.declared.RawStep.{RawStep}
 use Rattle.raw.specs.declared.RawStep.TheVariants as raw
-use Rattle.reader.specs.Take.{placeAfter, Starts, Takes}
+use Rattle.reader.specs.Take.{place_after, Starts, Takes}
 use Rattle.reader.specs.Trail.{answer_of, place_of}
 use Rattle.reader.specs.declared.Reader.{Reader}
 use Rattle.reader.proofs.Settled.{same, took-settled}
@@ -26,9 +26,9 @@ module _ (s : List ℕ) (n : RecordNumber) where
   unfolding answer_of place_of
   answer_at k = step-there s n k _
 
-  place_after : (k : ℕ) → place_of s n (suc k) ≡ placeAfter (place_of s n k) (answer_of s n k)
+  placed-after : (k : ℕ) → place_of s n (suc k) ≡ place_after (place_of s n k) (answer_of s n k)
   unfolding answer_of place_of
-  place_after k = place-on s n k _ ∙ ap (placeAfter _) (sym (step-there s n k _))
+  placed-after k = place-on s n k _ ∙ ap (place_after _) (sym (step-there s n k _))
 
   -- an attribute of the walk stands at its place and ends inside the record, where the next place is
   pub record Stands (k : ℕ) (h : Attribute) : Type 0 where
@@ -37,13 +37,13 @@ module _ (s : List ℕ) (n : RecordNumber) where
     pub inside : Inside s h
 
   pub stands : (k : ℕ) (h : Attribute) → answer_of s n k ≡ gives h → Stands k h
-  unfolding placeAfter
+  unfolding place_after
   stands k h e =
       let g = sym (answer_at k) ∙ e in
       let w = (step_given s n (place_of s n k) h g).stands in
       record {
         place = w;
-        next = place_after k ∙ ap (placeAfter (place_of s n k)) e ∙ ap (λ (p : ℕ). p + h.length) (sym w);
+        next = placed-after k ∙ ap (place_after (place_of s n k)) e ∙ ap (λ (p : ℕ). p + h.length) (sym w);
         inside = step-inside s n (place_of s n k) h g;
       }
 
@@ -52,35 +52,35 @@ module _ (s : List ℕ) (n : RecordNumber) where
     pub answer : answer_of s n (j + k) ≡ a
     pub place : place_of s n (j + k) ≡ place_of s n k
 
-  still : (k : ℕ) (a : Answer Attribute) → ((p : ℕ) → placeAfter p a ≡ p) → answer_of s n k ≡ a → (j : ℕ) → Still k a j
+  still : (k : ℕ) (a : Answer Attribute) → ((p : ℕ) → place_after p a ≡ p) → answer_of s n k ≡ a → (j : ℕ) → Still k a j
   still k a f e zero =
       let z : 0 + k ≡ k = omega arith in
       record { answer = ap (answer_of s n) z ∙ e; place = ap (place_of s n) z }
   still k a f e (suc j) =
       let i = still k a f e j in
       let z : suc j + k ≡ suc (j + k) = omega arith in
-      let p = ap (place_of s n) z ∙ place_after (j + k) ∙ ap (placeAfter (place_of s n (j + k))) i.answer ∙ f (place_of s n (j + k)) ∙ i.place in
+      let p = ap (place_of s n) z ∙ placed-after (j + k) ∙ ap (place_after (place_of s n (j + k))) i.answer ∙ f (place_of s n (j + k)) ∙ i.place in
       record { answer = answer_at (suc j + k) ∙ ap (step_of s n) p ∙ sym (answer_at k) ∙ e; place = p }
 
   -- after the end every further answer is the end
   pub ended : (k : ℕ) → answer_of s n k ≡ ends → (j : ℕ) → Still k ends j
-  unfolding placeAfter
+  unfolding place_after
   ended k e j = still k ends (λ p. refl) e j
 
   -- after a refusal every further answer is that refusal
   pub refused : (k : ℕ) (r : Refusal) → answer_of s n k ≡ refuses r → (j : ℕ) → Still k (refuses r) j
-  unfolding placeAfter
+  unfolding place_after
   refused k r e j = still k (refuses r) (λ p. refl) e j
 
 -- at the end and at a refusal a take leaves the reader, at any place, as it is, so every further one answers the same
 module _ (q r : Reader) where
   pub at-end : Takes q raw.End r → r ≡ q
-  unfolding placeAfter
-  at-end e = same r q e.bytes e.number (e.place ∙ ap (placeAfter q.at) (sym e.answer))
+  unfolding place_after
+  at-end e = same r q e.bytes e.number (e.place ∙ ap (place_after q.at) (sym e.answer))
 
   pub at-refusal : (f : Refusal) → Takes q (raw.Refused f) r → r ≡ q
-  unfolding placeAfter
-  at-refusal f e = same r q e.bytes e.number (e.place ∙ ap (placeAfter q.at) (sym e.answer))
+  unfolding place_after
+  at-refusal f e = same r q e.bytes e.number (e.place ∙ ap (place_after q.at) (sym e.answer))
 
   pub again : (x y : RawStep) (t : Reader) → Takes q x r → r ≡ q → Takes r y t → (y ≡ x) × (t ≡ r)
   again x y t e g f = took-settled (subst (λ (z : Reader). Takes z y t) g f) e
@@ -107,9 +107,9 @@ module _ (s : Bor (List ℕ)) (n : RecordNumber) (q : ℕ → Reader) (x : ℕ �
       record {
         bytes = t.bytes ∙ i.bytes;
         number = t.number ∙ i.number;
-        place = t.place ∙ ap (λ (p : ℕ). placeAfter p (step_of (q k).bytes.now (q k).number (q k).at)) i.place ∙ ap (placeAfter (place_of s.now n k)) (step_same k i) ∙ sym (place_after s.now n k);
+        place = t.place ∙ ap (λ (p : ℕ). place_after p (step_of (q k).bytes.now (q k).number (q k).at)) i.place ∙ ap (place_after (place_of s.now n k)) (step_same k i) ∙ sym (placed-after s.now n k);
       }
 
   -- THE THEOREM: the k-th take answers the k-th answer of the raw walk
-  pub answers : (k : ℕ) → k < m → toldStep (x k) ≡ answer_of s.now n k
+  pub answers : (k : ℕ) → k < m → told_step (x k) ≡ answer_of s.now n k
   answers k l = (next k l).answer ∙ step_same k (kept k (omega arith))

@@ -1,7 +1,7 @@
 // A record reader: it keeps the lent record and its place in the raw walk. What it answers is the raw walk's own.
 #![tactic(auto)]
 
-ghost use Rattle.raw.specs.Step.{toldStep};
+ghost use Rattle.raw.specs.Step.{told_step};
 ghost use Rattle.std.specs.Prelude.{◌≡◌};
 ghost use Rattle.reader.specs.Take.{Moves, Starts, Takes};
 ghost use Rattle.reader.specs.Trail.{answer_of};
@@ -62,7 +62,7 @@ pub fn take<'s, 'a>(r: &'s mut Reader<'a>) -> RawStep
 
 // What a reader answers after so many takes: for callers without a reader of their own.
 pub fn taken(s: &[u8], number: RecordNumber, turns: usize) -> RawStep
-    ensures { toldStep result ≡ answer_of s.now number turns }
+    ensures { told_step result ≡ answer_of s.now number turns }
 {
     let mut r = start(s, number);
     let mut left = turns;

@@ -5,53 +5,45 @@ use mathlib.Core.Bool.{true}
 use mathlib.Core.List.{List}
 use mathlib.Core.Logic.{⊎_elim}
 use native.Mathlib.Omega.{arith}
+use Rattle.std.proofs.lemmas.Bool.Decides.{nat_tests}
 use native.Mathlib.Nat.{not-suc-le-zero, le_of_suc-le-suc, eq-or-lt_of_le}
 use borrow.Author.Tests.{ltb-true, ltb-false, eqb-true}
 use lib.ListN.{length, length-take, length-drop}
 use Rattle.fields.specs.Answer.{gives}
-use Rattle.fields.specs.Open.{goodLength, openOf, open_in}
+use Rattle.fields.specs.Open.{good_length, open_of, open_in}
 use Rattle.fields.specs.declared.RecordNumber.{RecordNumber}
 use Rattle.fields.proofs.Cases.{not_first, not-second}
 use Rattle.fields.proofs.Answers.{refused-given, the-given, back}
 use Rattle.fields.proofs.Opens.{not-true, Sized, good_sized}
-use Rattle.table.specs.Layout.{numbersAt, width, row_in, rowAt}
-use Rattle.table.specs.Check.{goodNumbers, head_of, leastAt, goodRow, rowsChecked, rows_of, table_of, openTable}
-use Rattle.table.specs.Held.{recordAt}
+use Rattle.table.specs.Layout.{numbers_at, width, row_in, row_at}
+use Rattle.table.specs.Check.{good_numbers, head_of, least_at, good_row, rows_checked, rows_of, table_of, open_table}
+use Rattle.table.specs.Held.{record_at}
 use Rattle.table.specs.declared.Numbers.{Numbers}
 use Rattle.table.specs.declared.Row.{Row}
 use Rattle.table.proofs.Rows.{GoodAt, all-good}
 
 -- the header's faults are absent
 pub record Head (t : List ℕ) (h : Numbers) : Type 0 where
-  pub is : h ≡ numbersAt t
+  pub is : h ≡ numbers_at t
   pub few : h.count ≤ 4096
-  pub good : goodLength h.size ≡ true
+  pub good : good_length h.size ≡ true
   pub after : 20 ≤ h.directory
   pub before : h.directory + width * h.count ≤ h.records
   pub ends : h.records ≤ length t
   pub based : h.base ≤ h.count
 
 pub head-sound : (t : List ℕ) (h : Numbers) → head_of t ≡ gives h → Head t h
-unfolding head_of goodNumbers
+unfolding head_of good_numbers
 head-sound t h e =
-    let e₁ = not_first _ _ _ _ e refused-given in
-    let e₂ = not-second _ _ _ _ e₁.1 refused-given in
-    let q : h ≡ numbersAt t = sym (the-given e₂.1) in
-    let g : goodNumbers (length t) h ≡ true = subst (λ (x : Numbers). goodNumbers (length t) x ≡ true) (sym q) e₂.0 in
-    let e₃ = not_first _ _ _ _ g not-true in
-    let e₄ = not-second _ _ _ _ e₃.1 not-true in
-    let e₅ = not_first _ _ _ _ e₄.1 not-true in
-    let e₆ = not_first _ _ _ _ e₅.1 not-true in
-    let e₇ = not_first _ _ _ _ e₆.1 not-true in
-    let e₈ = not_first _ _ _ _ e₇.1 not-true in
+    let q : h ≡ numbers_at t = grind (arith, nat_tests) in
     record {
       is = q;
-      few = omega (arith, ltb-false);
-      good = e₄.0;
-      after = omega (arith, ltb-false);
-      before = omega (arith, ltb-false);
-      ends = omega (arith, ltb-false);
-      based = omega (arith, ltb-false);
+      few = grind (arith, nat_tests);
+      good = grind (arith, nat_tests);
+      after = grind (arith, nat_tests);
+      before = grind (arith, nat_tests);
+      ends = grind (arith, nat_tests);
+      based = grind (arith, nat_tests);
     }
 
 -- the faults of a row are absent
@@ -61,39 +53,34 @@ pub record Fits (m : ℕ) (h : Numbers) (least : ℕ) (r : Row) : Type 0 where
   pub starts : h.records ≤ r.offset
   pub stops : r.offset + h.size ≤ m
 
-pub row-sound : (m : ℕ) (h : Numbers) (least : ℕ) (r : Row) → goodRow m h least r ≡ true → Fits m h least r
-unfolding goodRow
-row-sound m h least r e =
-    let e₁ = not-second _ _ _ _ e not-true in
-    let e₂ = not_first _ _ _ _ e₁.1 not-true in
-    let e₃ = not_first _ _ _ _ e₂.1 not-true in
-    let e₄ = not_first _ _ _ _ e₃.1 not-true in
-    record {
-      small = omega (arith, ltb-true);
-      above = omega (arith, ltb-false);
-      starts = omega (arith, ltb-false);
-      stops = omega (arith, ltb-false);
-    }
+pub row-sound : (m : ℕ) (h : Numbers) (least : ℕ) (r : Row) → good_row m h least r ≡ true → Fits m h least r
+unfolding good_row
+row-sound m h least r e = record {
+  small = grind (arith, nat_tests);
+  above = grind (arith, nat_tests);
+  starts = grind (arith, nat_tests);
+  stops = grind (arith, nat_tests);
+}
 
 pub record Sound (t : List ℕ) (h : Numbers) : Type 0 where
   pub head : Head t h
   pub sized : Sized h.size
-  pub small : (i : ℕ) → i < h.count → (rowAt t h i).number.0 < 0x1000000000000
-  pub rises : (i j : ℕ) → i < j → j < h.count → (rowAt t h i).number.0 < (rowAt t h j).number.0
-  pub starts : (i : ℕ) → i < h.count → h.records ≤ (rowAt t h i).offset
-  pub stops : (i : ℕ) → i < h.count → (rowAt t h i).offset + h.size ≤ length t
+  pub small : (i : ℕ) → i < h.count → (row_at t h i).number.0 < 0x1000000000000
+  pub rises : (i j : ℕ) → i < j → j < h.count → (row_at t h i).number.0 < (row_at t h j).number.0
+  pub starts : (i : ℕ) → i < h.count → h.records ≤ (row_at t h i).offset
+  pub stops : (i : ℕ) → i < h.count → (row_at t h i).offset + h.size ≤ length t
 
 module _ (t : List ℕ) (h : Numbers) (all : (i : ℕ) → i < h.count → GoodAt t h i) where
-  fits : (i : ℕ) → i < h.count → Fits (length t) h (leastAt t h i) (rowAt t h i)
+  fits : (i : ℕ) → i < h.count → Fits (length t) h (least_at t h i) (row_at t h i)
   fits i l = row-sound _ _ _ _ (all i l)
 
-  rising : (i j : ℕ) → i < j → j < h.count → (rowAt t h i).number.0 < (rowAt t h j).number.0
-  unfolding leastAt
+  rising : (i j : ℕ) → i < j → j < h.count → (row_at t h i).number.0 < (row_at t h j).number.0
+  unfolding least_at
   rising i zero l k = absurd (not-suc-le-zero l)
   rising i (suc j) l k =
       let p = (fits (suc j) k).above in
       ⊎_elim
-      (λ q. subst (λ (x : ℕ). (rowAt t h x).number.0 < (rowAt t h (suc j)).number.0) (sym q) (omega arith))
+      (λ q. subst (λ (x : ℕ). (row_at t h x).number.0 < (row_at t h (suc j)).number.0) (sym q) (omega arith))
       (λ m. let r = rising i j m (omega arith) in omega arith)
       (eq-or-lt_of_le (le_of_suc-le-suc l))
 
@@ -102,7 +89,7 @@ pub sound : (t : List ℕ) (h : Numbers) → table_of t ≡ gives h → Sound t 
 unfolding table_of rows_of
 sound t h e =
     let a = back (head_of t) (rows_of t) h e in
-    let b = back (rowsChecked t a.first a.first.count) _ h a.next in
+    let b = back (rows_checked t a.first a.first.count) _ h a.next in
     let q : a.first ≡ h = the-given b.next in
     let d : Head t h = subst (Head t) q (head-sound t a.first a.gave) in
     let all = subst (λ (x : Numbers). (i : ℕ) → i < x.count → GoodAt t x i) q (all-good t a.first a.first.count b.gave) in
@@ -119,10 +106,10 @@ sound t h e =
 pub record Opening (base : List ℕ) (n : RecordNumber) (t : List ℕ) (h : Numbers) : Type 0 where
   pub table : table_of t ≡ gives h
   pub fits : length base ≡ h.size
-  pub passed : openOf base n ≡ gives tt
+  pub passed : open_of base n ≡ gives tt
 
-pub opened : (base : List ℕ) (n : RecordNumber) (t : List ℕ) (h : Numbers) → openTable base n t ≡ gives h → Opening base n t h
-unfolding openTable open_in
+pub opened : (base : List ℕ) (n : RecordNumber) (t : List ℕ) (h : Numbers) → open_table base n t ≡ gives h → Opening base n t h
+unfolding open_table open_in
 opened base n t h e =
     let a = back (table_of t) _ h e in
     let b = back (open_in base n a.first.size) _ h a.next in
@@ -135,8 +122,8 @@ opened base n t h e =
     }
 
 -- "the row's offset": where row i stands
-pub row-place : (t : List ℕ) (h : Numbers) (i : ℕ) → (rowAt t h i).place ≡ h.directory + width * i
-unfolding rowAt row_in
+pub row-place : (t : List ℕ) (h : Numbers) (i : ℕ) → (row_at t h i).place ≡ h.directory + width * i
+unfolding row_at row_in
 row-place t h i = refl
 
 module _ {t : List ℕ} {h : Numbers} (s : Sound t h) where
@@ -145,13 +132,13 @@ module _ {t : List ℕ} {h : Numbers} (s : Sound t h) where
   row_inside i l = let d = s.head in omega arith
 
   -- two rows never have one number
-  pub one-row : (i j : ℕ) → i < h.count → j < h.count → (rowAt t h i).number.0 ≡ (rowAt t h j).number.0 → i ≡ j
+  pub one-row : (i j : ℕ) → i < h.count → j < h.count → (row_at t h i).number.0 ≡ (row_at t h j).number.0 → i ≡ j
   one-row i j k l e =
       let a : i < j → ⊥ = λ m. omega (arith, s.rises i j m l) in
       let b : j < i → ⊥ = λ m. omega (arith, s.rises j i m k) in
       omega arith
 
   -- a row's record has the record size
-  pub record-length : (i : ℕ) → i < h.count → length (recordAt t h i) ≡ h.size
-  unfolding recordAt
+  pub record-length : (i : ℕ) → i < h.count → length (record_at t h i) ≡ h.size
+  unfolding record_at
   record-length i l = let k = s.stops i l in simp (length-take, length-drop) (omega arith)

@@ -5,8 +5,8 @@ use Rattle.table.specs.declared.Numbers.{Numbers}
 use Rattle.table.specs.declared.Row.{Row}
 
 -- "Header of five u32: count, record size, directory offset, records offset, base row"
-unfoldable pub numbersAt : List ℕ → Numbers
-numbersAt t = record {
+unfoldable pub numbers_at : List ℕ → Numbers
+numbers_at t = record {
   count = le 4 t 0;
   size = le 4 t 4;
   directory = le 4 t 8;
@@ -23,5 +23,5 @@ unfoldable pub row_in : List ℕ → ℕ → Row
 row_in t at = record { place = at; number = record { 0 = le 8 t at }; offset = le 4 t (at + 8) }
 
 -- row i of the directory
-unfoldable pub rowAt : List ℕ → Numbers → ℕ → Row
-rowAt t h i = row_in t (h.directory + width * i)
+unfoldable pub row_at : List ℕ → Numbers → ℕ → Row
+row_at t h i = row_in t (h.directory + width * i)

@@ -1,6 +1,6 @@
 // The rows of the directory.
 ghost use Rattle.std.specs.Prelude.{◌≡◌, ◌+◌, ◌*◌, ◌≤◌, length};
-ghost use Rattle.table.specs.Layout.{width, row_in, rowAt};
+ghost use Rattle.table.specs.Layout.{width, row_in, row_at};
 
 use crate::{Numbers, Row};
 use fields::RecordNumber;
@@ -23,7 +23,7 @@ fn row_in(t: &[u8], at: usize) -> Row
 // Row i of the directory.
 pub fn row_at(t: &[u8], h: Numbers, i: usize) -> Row
     requires { h.directory + width * i + width ≤ length t.now }
-    ensures { result ≡ rowAt t.now h i }
+    ensures { result ≡ row_at t.now h i }
 {
     row_in(t, h.directory as usize + WIDTH * i)
 }

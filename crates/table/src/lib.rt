@@ -5,9 +5,9 @@ pub mod inner;
 
 ghost use Rattle.std.specs.Prelude.{◌≡◌, ◌≤◌, length};
 ghost use Rattle.fields.specs.Answer.{gives, refuses};
-ghost use Rattle.table.specs.Layout.{numbersAt};
-ghost use Rattle.table.specs.Check.{toldTested, malformed, goodNumbers, head_of, goodRow, rows_of, table_of, openTable};
-ghost use Rattle.table.specs.Held.{toldRow, baseRow};
+ghost use Rattle.table.specs.Layout.{numbers_at};
+ghost use Rattle.table.specs.Check.{told_tested, malformed, good_numbers, head_of, good_row, rows_of, table_of, open_table};
+ghost use Rattle.table.specs.Held.{told_row, base_row};
 
 use fields::inner::u32_at;
 use fields::{Opened, RecordNumber, Refusal, good_length, opening_in};
@@ -45,7 +45,7 @@ pub enum RowFound {
 }
 
 fn no_table(place: usize) -> Tested
-    ensures { toldTested result ≡ refuses (malformed place) }
+    ensures { told_tested result ≡ refuses (malformed place) }
 {
     Tested::Refused(Refusal {
         number: 21,
@@ -56,7 +56,7 @@ fn no_table(place: usize) -> Tested
 
 // Whether the five numbers suit each other and a table of m bytes.
 fn good_numbers(m: usize, h: Numbers) -> bool
-    ensures { result ≡ goodNumbers m h }
+    ensures { result ≡ good_numbers m h }
 {
     let count = h.count as usize;
     let size = h.size as usize;
@@ -86,7 +86,7 @@ fn good_numbers(m: usize, h: Numbers) -> bool
 
 fn numbers_at(t: &[u8]) -> Numbers
     requires { 20 ≤ length t.now }
-    ensures { result ≡ numbersAt t.now }
+    ensures { result ≡ numbers_at t.now }
 {
     Numbers {
         count: u32_at(t, 0),
@@ -98,7 +98,7 @@ fn numbers_at(t: &[u8]) -> Numbers
 }
 
 fn check_head(t: &[u8]) -> Tested
-    ensures { toldTested result ≡ head_of t.now }
+    ensures { told_tested result ≡ head_of t.now }
 {
     if t.len() < 20 {
         return no_table(0);
@@ -112,7 +112,7 @@ fn check_head(t: &[u8]) -> Tested
 
 // Whether a row's number is below 2^48 and at least `least`, and its record lies between the records offset and the end of a table of m bytes.
 fn good_row(m: usize, h: Numbers, least: u64, r: Row) -> bool
-    ensures { result ≡ goodRow m h least r }
+    ensures { result ≡ good_row m h least r }
 {
     let number = r.number.0;
     let offset = r.offset as usize;
@@ -136,7 +136,7 @@ fn good_row(m: usize, h: Numbers, least: u64, r: Row) -> bool
 // The rows one after another. A row's number must be above the one before it, so `least` is that number and one more.
 fn check_rows(t: &[u8], h: Numbers) -> Tested
     requires { head_of t.now ≡ gives h }
-    ensures { toldTested result ≡ rows_of t.now h }
+    ensures { told_tested result ≡ rows_of t.now h }
 {
     let rows = h.count as usize;
     let mut least: u64 = 0;
@@ -155,7 +155,7 @@ fn check_rows(t: &[u8], h: Numbers) -> Tested
 
 // Check 21: the table's five numbers, or the first fault of the header (at 0) or of a row (where that row stands).
 pub fn check(t: &[u8]) -> Tested
-    ensures { toldTested result ≡ table_of t.now }
+    ensures { told_tested result ≡ table_of t.now }
 {
     let a = check_head(t);
     match a {
@@ -166,7 +166,7 @@ pub fn check(t: &[u8]) -> Tested
 
 // The base row, if the table has one.
 pub fn base_row(h: Numbers) -> RowFound
-    ensures { toldRow result ≡ baseRow h }
+    ensures { told_row result ≡ base_row h }
 {
     if h.base == h.count {
         return RowFound::Missing;
@@ -176,7 +176,7 @@ pub fn base_row(h: Numbers) -> RowFound
 
 // Checks 21, 1 and 2, which every call with a table makes before its steps: the table's numbers, or the first refusal.
 pub fn opening(base: &[u8], number: RecordNumber, t: &[u8]) -> Tested
-    ensures { toldTested result ≡ openTable base.now number t.now }
+    ensures { told_tested result ≡ open_table base.now number t.now }
 {
     let a = check(t);
     match a {

@@ -3,13 +3,13 @@ use Rattle.std.specs.Prelude.{ℕ, zero, suc, ◌+◌, ◌/◌, ◌%◌, List, [
 use Rattle.fields.specs.Pick.{pick}
 
 -- a number's digits, at most f of them, the most significant first and none in front that is 0 unless it is the only one
-unfoldable pub digitsUpTo : ℕ → ℕ → List ℕ
-digitsUpTo zero n = []
-digitsUpTo (suc f) n = pick (ltb n 10) ((48 + n) ∷ []) (digitsUpTo f (n / 10) ++ ((48 + n % 10) ∷ []))
+unfoldable pub digits_up_to : ℕ → ℕ → List ℕ
+digits_up_to zero n = []
+digits_up_to (suc f) n = pick (ltb n 10) ((48 + n) ∷ []) (digits_up_to f (n / 10) ++ ((48 + n % 10) ∷ []))
 
 -- 20 digits hold every u64
 unfoldable pub decimal : ℕ → List ℕ
-decimal n = digitsUpTo 20 n
+decimal n = digits_up_to 20 n
 
 -- each number behind a space
 unfoldable pub numbers : List ℕ → List ℕ

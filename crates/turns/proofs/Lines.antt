@@ -6,13 +6,13 @@ use lib.ListN.{length, drop, replicate}
 use Rattle.fields.specs.Pick.{pick}
 use Rattle.fields.specs.Le.{le}
 use Rattle.fields.specs.Answer.{Answer, gives, ends, refuses, refusal, ◌⟫◌}
-use Rattle.fields.specs.Open.{FILE, same, isFile, goodLength, checkFile, openOf}
+use Rattle.fields.specs.Open.{FILE, same, is_file, good_length, check_file, open_of}
 use Rattle.fields.specs.declared.RecordNumber.{RecordNumber}
 use Rattle.list.specs.Entry.{entry_at, entry_of}
-use Rattle.raw.specs.Attribute.{attributeAt, checkedAt, attributeOf}
-use Rattle.raw.specs.Step.{stepAt, step_of}
-use Rattle.values.specs.Name.{nameIn, nameOf}
-use Rattle.values.specs.Value.{residentAt, fullIn, residentSpan, valueAfter, valueIn, value_of}
+use Rattle.raw.specs.Attribute.{attribute_at, checked_at, attribute_of}
+use Rattle.raw.specs.Step.{step_at, step_of}
+use Rattle.values.specs.Name.{name_in, name_of}
+use Rattle.values.specs.Value.{resident_at, full_in, resident_span, value_after, value_in, value_of}
 
 -- what a row asks of the definition
 pub data Ask : Type 0 where
@@ -37,8 +37,8 @@ abbrev number : RecordNumber
 number = record { 0 = 40 }
 
 -- a record of m bytes that begins with FILE and has these bytes at a place, and else zeros
-abbrev pub recordOf : ℕ → ℕ → List ℕ → List ℕ
-recordOf m p b = FILE ++ (replicate (p - 4) 0 ++ (b ++ replicate (m - p - length b) 0))
+abbrev pub record_of : ℕ → ℕ → List ℕ → List ℕ
+record_of m p b = FILE ++ (replicate (p - 4) 0 ++ (b ++ replicate (m - p - length b) 0))
 
 -- accepted, the end, or the refusal, whatever the value
 abbrev verdict : {A : Type 0} → Answer A → Answer Unit
@@ -48,7 +48,7 @@ verdict (refuses r) = refuses r
 
 abbrev pub answer_of : Ask → List ℕ → ℕ → Answer Unit
 answer_of step s p = verdict (step_of s number p)
-answer_of name s p = verdict (nameOf s number p)
+answer_of name s p = verdict (name_of s number p)
 answer_of value s p = verdict (value_of s number p)
 answer_of entry s p = verdict (entry_of (drop p s) number p)
 
@@ -62,8 +62,8 @@ attribute size units at many from =
     16 ∷ 0 ∷ 0 ∷ 0 ∷ size ∷ 0 ∷ 0 ∷ 0 ∷ 0 ∷ units ∷ at ∷ 0 ∷ 0 ∷ 0 ∷ 0 ∷ 0 ∷ (many ++ (from ∷ 0 ∷ []))
 
 -- a list entry's first bytes: type 16, a length, then name units and name offset 26
-abbrev entryBytes : ℕ → ℕ → List ℕ
-entryBytes size units = 16 ∷ 0 ∷ 0 ∷ 0 ∷ size ∷ 0 ∷ units ∷ 26 ∷ []
+abbrev entry_bytes : ℕ → ℕ → List ℕ
+entry_bytes size units = 16 ∷ 0 ∷ 0 ∷ 0 ∷ size ∷ 0 ∷ units ∷ 26 ∷ []
 
 abbrev none : List ℕ
 none = 0 ∷ 0 ∷ 0 ∷ 0 ∷ []
@@ -86,13 +86,13 @@ rows =
     -- "value offset 24, length 4,294,967,295 gives 11."
     ∷ row value 96 56 (attribute 32 0 0 most 24) (refused 11 56)
     -- "entry length 28 with one name unit accepted, 27 gives 15. Entry length 40, no name, with 32 left: end."
-    ∷ row entry 96 64 (entryBytes 28 1) (gives tt)
-    ∷ row entry 96 64 (entryBytes 27 1) (refused 15 64)
-    ∷ row entry 96 64 (entryBytes 40 0) ends
+    ∷ row entry 96 64 (entry_bytes 28 1) (gives tt)
+    ∷ row entry 96 64 (entry_bytes 27 1) (refused 15 64)
+    ∷ row entry 96 64 (entry_bytes 40 0) ends
     -- "26 left, length 28, one unit gives 16."
-    ∷ row entry 96 70 (entryBytes 28 1) (refused 16 70)
+    ∷ row entry 96 70 (entry_bytes 28 1) (refused 16 70)
     ∷ []
 
-pub lines : map (λ r. answer_of r.asks (recordOf r.long r.place r.bytes) r.place) rows ≡ map (λ r. r.says) rows
-unfolding pick le ◌⟫◌ same isFile goodLength checkFile openOf attributeAt checkedAt attributeOf stepAt step_of nameIn nameOf residentAt fullIn residentSpan valueAfter valueIn value_of entry_at entry_of
+pub lines : map (λ r. answer_of r.asks (record_of r.long r.place r.bytes) r.place) rows ≡ map (λ r. r.says) rows
+unfolding pick le ◌⟫◌ same is_file good_length check_file open_of attribute_at checked_at attribute_of step_at step_of name_in name_of resident_at full_in resident_span value_after value_in value_of entry_at entry_of
 lines = refl

@@ -8,16 +8,16 @@ use Rattle.turns.specs.declared.Key.{Key}
 use Rattle.turns.specs.declared.State.{State}
 
 -- no list
-abbrev pub noList : Rest
-noList = record { is = false; from = 0; to = 0 }
+abbrev pub no_list : Rest
+no_list = record { is = false; from = 0; to = 0 }
 
 -- a list from its next entry on
-abbrev pub listAt : ℕ → ℕ → Rest
-listAt from to = record { is = true; from = from; to = to }
+abbrev pub list_at : ℕ → ℕ → Rest
+list_at from to = record { is = true; from = from; to = to }
 
 -- no skip key
-abbrev pub noKey : Key
-noKey = record { is = false; ty = 0; instance = 0 }
+abbrev pub no_key : Key
+no_key = record { is = false; ty = 0; instance = 0 }
 
 abbrev pub state : ℕ → Rest → Key → State
 state raw list key = record { raw = raw; list = list; key = key }

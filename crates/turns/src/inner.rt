@@ -1,13 +1,13 @@
 // The two kinds of turn: one entry of the open list, and one raw attribute.
 ghost use Rattle.std.specs.Prelude.{◌≡◌, ◌+◌, ◌≤◌, length};
 ghost use Rattle.fields.specs.Answer.{gives, refuses, refusal};
-ghost use Rattle.table.specs.Held.{recordOf};
-ghost use Rattle.lookup.specs.Lookup.{lookupIn};
+ghost use Rattle.table.specs.Held.{record_of};
+ghost use Rattle.lookup.specs.Lookup.{lookup_in};
 ghost use Rattle.raw.specs.Attribute.{Inside};
-ghost use Rattle.raw.specs.Find.{findOf};
-ghost use Rattle.turns.specs.State.{noList, noKey, Ready};
+ghost use Rattle.raw.specs.Find.{find_of};
+ghost use Rattle.turns.specs.State.{no_list, no_key, Ready};
 ghost use Rattle.turns.specs.Key.{agrees, key_of};
-ghost use Rattle.turns.specs.Turn.{toldItem, toldTurn, passes, answers, closed, pastWith, soughtTurn, lookedTurn, givenTurn, entryTurn, rawAfter, rawTurn};
+ghost use Rattle.turns.specs.Turn.{told_item, told_turn, passes, answers, closed, past_with, sought_turn, looked_turn, given_turn, entry_turn, raw_after, raw_turn};
 
 use crate::{Item, ItemStep, Key, Kind, Rest, State, Turn};
 use fields::{RecordNumber, Refusal, known_type};
@@ -18,7 +18,7 @@ use table::Numbers;
 use values::Spanned;
 
 pub fn no_list() -> Rest
-    ensures { result ≡ noList }
+    ensures { result ≡ no_list }
 {
     Rest {
         is: false,
@@ -28,7 +28,7 @@ pub fn no_list() -> Rest
 }
 
 pub fn no_key() -> Key
-    ensures { result ≡ noKey }
+    ensures { result ≡ no_key }
 {
     Key {
         is: false,
@@ -62,7 +62,7 @@ pub fn key_of(e: Entry, part: &[u8]) -> Key
 }
 
 fn stop(a: ItemStep, left: State, reads: u64) -> Turn
-    ensures result_value { toldTurn result ≡ answers (toldItem a) left reads }
+    ensures result_value { told_turn result ≡ answers (told_item a) left reads }
     ensures reads_value { result.reads ≡ reads }
 {
     let kind = Kind::Stop(a);
@@ -70,14 +70,14 @@ fn stop(a: ItemStep, left: State, reads: u64) -> Turn
 }
 
 fn refuse(r: Refusal, left: State, reads: u64) -> Turn
-    ensures result_value { toldTurn result ≡ answers (refuses r) left reads }
+    ensures result_value { told_turn result ≡ answers (refuses r) left reads }
     ensures reads_value { result.reads ≡ reads }
 {
     stop(ItemStep::Refused(r), left, reads)
 }
 
 fn pass(left: State, reads: u64) -> Turn
-    ensures result_value { toldTurn result ≡ passes left reads }
+    ensures result_value { told_turn result ≡ passes left reads }
     ensures reads_value { result.reads ≡ reads }
 {
     let kind = Kind::Pass;
@@ -87,7 +87,7 @@ fn pass(left: State, reads: u64) -> Turn
 // The state past an entry, with a key.
 fn past_with(w: State, e: Entry, key: Key) -> State
     requires { w.list.from + e.length ≤ w.list.to }
-    ensures { result ≡ pastWith w e key }
+    ensures { result ≡ past_with w e key }
 {
     let list = Rest {
         is: true,
@@ -116,7 +116,7 @@ fn close(w: State) -> State
 // The search in a record that was looked up, and the item where it finds the attribute.
 fn sought_turn(t: &[u8], number: RecordNumber, part: &[u8], w: State, e: Entry) -> Turn
     requires { (w.list.from + e.length ≤ w.list.to) × (length t.now ≤ 4096) }
-    ensures result_value { toldTurn result ≡ soughtTurn part.now w e (findOf t.now e.file e.ty e.instance (refusal 18 number w.list.from)) }
+    ensures result_value { told_turn result ≡ sought_turn part.now w e (find_of t.now e.file e.ty e.instance (refusal 18 number w.list.from)) }
     ensures reads_bound { result.reads ≤ 257 }
 {
     let f = raw::inner::find(t, e.file, e.ty, e.instance, number, w.list.from);
@@ -157,7 +157,7 @@ fn looked_turn<'a>(
 ) -> Turn
     requires ready { Ready base.now t.now h }
     requires length_bound { w.list.from + e.length ≤ w.list.to }
-    ensures result_value { toldTurn result ≡ lookedTurn base.now number (recordOf t.now) part.now w e (lookupIn base.now number (recordOf t.now) e.file w.list.from) }
+    ensures result_value { told_turn result ≡ looked_turn base.now number (record_of t.now) part.now w e (lookup_in base.now number (record_of t.now) e.file w.list.from) }
     ensures reads_bound { result.reads ≤ 257 }
 {
     let p = lookup::inner::lookup(base, number, t, h, e.file, w.list.from);
@@ -179,7 +179,7 @@ fn given_turn<'a>(
 ) -> Turn
     requires ready { Ready base.now t.now h }
     requires length_bound { w.list.from + e.length ≤ w.list.to }
-    ensures result_value { toldTurn result ≡ givenTurn base.now number (recordOf t.now) part.now w e }
+    ensures result_value { told_turn result ≡ given_turn base.now number (record_of t.now) part.now w e }
     ensures reads_bound { result.reads ≤ 257 }
 {
     let key = w.key;
@@ -210,7 +210,7 @@ pub fn entry_turn<'a>(
 ) -> Turn
     requires ready { Ready base.now t.now h }
     requires from_le_to { (w.list.from ≤ w.list.to) × (w.list.to ≤ length base.now) }
-    ensures result_value { toldTurn result ≡ entryTurn base.now number (recordOf t.now) w }
+    ensures result_value { told_turn result ≡ entry_turn base.now number (record_of t.now) w }
     ensures reads_bound { result.reads ≤ 257 }
 {
     let from = w.list.from;
@@ -228,7 +228,7 @@ pub fn entry_turn<'a>(
 fn taken_turn(base: &[u8], number: RecordNumber, w: State, h: Attribute) -> Turn
     requires inside { Inside base.now h }
     requires length_in_bounds { w.raw + h.length ≤ length base.now }
-    ensures result_value { toldTurn result ≡ rawAfter base.now number w (gives h) }
+    ensures result_value { told_turn result ≡ raw_after base.now number w (gives h) }
     ensures reads_bound { result.reads ≤ 257 }
 {
     let key = w.key;
@@ -276,7 +276,7 @@ fn taken_turn(base: &[u8], number: RecordNumber, w: State, h: Attribute) -> Turn
 // One raw attribute.
 pub fn raw_turn(base: &[u8], number: RecordNumber, w: State) -> Turn
     requires { length base.now ≤ 4096 }
-    ensures result_value { toldTurn result ≡ rawTurn base.now number w }
+    ensures result_value { told_turn result ≡ raw_turn base.now number w }
     ensures reads_bound { result.reads ≤ 257 }
 {
     let a = raw::inner::step(base, number, w.raw);

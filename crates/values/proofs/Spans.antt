@@ -4,15 +4,16 @@ use mathlib.Core.Path.{◌≡◌, ap, subst}
 use mathlib.Core.Logic.{⊎_elim}
 use mathlib.Core.List.{List}
 use native.Mathlib.Omega.{arith}
+use Rattle.std.proofs.lemmas.Bool.Decides.{nat_tests}
 use borrow.Author.Tests.{ltb-false}
 use lib.ListN.{length}
 use Rattle.fields.specs.Answer.{gives}
 use Rattle.fields.specs.declared.RecordNumber.{RecordNumber}
 use Rattle.fields.proofs.Cases.{not_first, not-second, either}
 use Rattle.fields.proofs.Answers.{refused-given, the-given, back}
-use Rattle.raw.specs.Attribute.{attributeOf, Inside}
-use Rattle.values.specs.Name.{nameIn, nameOf}
-use Rattle.values.specs.Value.{Full, resident, nonResident, fullIn, residentSpan, runsSpan, Value, inRecord, valueAfter, valueIn, value_of, span_of, listAfter, listIn}
+use Rattle.raw.specs.Attribute.{attribute_of, Inside}
+use Rattle.values.specs.Name.{name_in, name_of}
+use Rattle.values.specs.Value.{Full, resident, non_resident, full_in, resident_span, runs_span, Value, in_record, value_after, value_in, value_of, span_of, list_after, list_in}
 use Rattle.raw.specs.declared.Attribute.{Attribute}
 use Rattle.values.specs.declared.ResidentHeader.{ResidentHeader}
 use Rattle.values.specs.declared.Span.{Span}
@@ -28,76 +29,76 @@ valued : (s : List ℕ) {v w : Value} → gives v ≡ gives w → Fits s (span_o
 valued s e f = subst (λ (x : Value). Fits s (span_of x)) (the-given e) f
 
 module _ (s : List ℕ) (n : RecordNumber) (h : Attribute) (i : Inside s h) where
-  pub name-fits : (p : Span) → nameIn n h ≡ gives p → Fits s p
-  unfolding nameIn
+  pub name-fits : (p : Span) → name_in n h ≡ gives p → Fits s p
+  unfolding name_in
   name-fits p e =
       ⊎_elim (λ a. moved s a (omega arith))
       (λ e₁. ⊎_elim (λ a. moved s a (omega arith))
       (λ e₂.
       let e₃ = not-second _ _ _ _ e₂ refused-given in
       let e₄ = not_first _ _ _ _ e₃.1 refused-given in
-      moved s e₄.1 (omega (arith, ltb-false)))
+      moved s e₄.1 (grind (arith, nat_tests)))
       (either _ _ _ _ e₁))
       (either _ _ _ _ e)
 
-  resident-fits : (f : ResidentHeader) (p : Span) → residentSpan n h f ≡ gives p → Fits s p
-  unfolding residentSpan
+  resident-fits : (f : ResidentHeader) (p : Span) → resident_span n h f ≡ gives p → Fits s p
+  unfolding resident_span
   resident-fits f p e =
       let e₁ = not_first _ _ _ _ e refused-given in
       let e₂ = not_first _ _ _ _ e₁.1 refused-given in
-      moved s e₂.1 (omega (arith, ltb-false))
+      moved s e₂.1 (grind (arith, nat_tests))
 
-  value_after : (f : Full) (v : Value) → valueAfter n h f ≡ gives v → Fits s (span_of v)
-  unfolding valueAfter span_of runsSpan
-  value_after (resident f) v e =
-      let t = back (residentSpan n h f) (λ p. gives (inRecord p)) v e in
+  valued-after : (f : Full) (v : Value) → value_after n h f ≡ gives v → Fits s (span_of v)
+  unfolding value_after span_of runs_span
+  valued-after (resident f) v e =
+      let t = back (resident_span n h f) (λ p. gives (in_record p)) v e in
       valued s t.next (resident-fits f t.first t.gave)
-  value_after (nonResident f) v e =
+  valued-after (non_resident f) v e =
       let e₁ = not_first _ _ _ _ e refused-given in
-      valued s e₁.1 (omega (arith, ltb-false))
+      valued s e₁.1 (grind (arith, nat_tests))
 
-  pub value-fits : (v : Value) → valueIn s n h ≡ gives v → Fits s (span_of v)
-  unfolding valueIn
-  value-fits v e = let t = back (fullIn s n h) (valueAfter n h) v e in value_after t.first v t.next
+  pub value-fits : (v : Value) → value_in s n h ≡ gives v → Fits s (span_of v)
+  unfolding value_in
+  value-fits v e = let t = back (full_in s n h) (value_after n h) v e in valued-after t.first v t.next
 
-  list-after : (f : Full) (p : Span) → listAfter n h f ≡ gives p → Fits s p
-  unfolding listAfter
+  list-after : (f : Full) (p : Span) → list_after n h f ≡ gives p → Fits s p
+  unfolding list_after
   list-after (resident f) p e = resident-fits f p e
-  list-after (nonResident f) p e = absurd (refused-given e)
+  list-after (non_resident f) p e = absurd (refused-given e)
 
-  pub list-fits : (p : Span) → listIn s n h ≡ gives p → Fits s p
-  unfolding listIn
-  list-fits p e = let t = back (fullIn s n h) (listAfter n h) p e in list-after t.first p t.next
+  pub list-fits : (p : Span) → list_in s n h ≡ gives p → Fits s p
+  unfolding list_in
+  list-fits p e = let t = back (full_in s n h) (list_after n h) p e in list-after t.first p t.next
 
 -- a list is no longer than the attribute that holds it
 module _ (s : List ℕ) (n : RecordNumber) (h : Attribute) (p : Span) where
-  resident-short : (f : ResidentHeader) → residentSpan n h f ≡ gives p → p.bytes ≤ h.length
-  unfolding residentSpan
+  resident-short : (f : ResidentHeader) → resident_span n h f ≡ gives p → p.bytes ≤ h.length
+  unfolding resident_span
   resident-short f e =
       let e₁ = not_first _ _ _ _ e refused-given in
       let e₂ = not_first _ _ _ _ e₁.1 refused-given in
       let b = ap (λ (x : Span). x.bytes) (the-given e₂.1) in
-      omega (arith, ltb-false)
+      grind (arith, nat_tests)
 
-  short-after : (f : Full) → listAfter n h f ≡ gives p → p.bytes ≤ h.length
-  unfolding listAfter
+  short-after : (f : Full) → list_after n h f ≡ gives p → p.bytes ≤ h.length
+  unfolding list_after
   short-after (resident f) e = resident-short f e
-  short-after (nonResident f) e = absurd (refused-given e)
+  short-after (non_resident f) e = absurd (refused-given e)
 
-  pub list-short : listIn s n h ≡ gives p → p.bytes ≤ h.length
-  unfolding listIn
-  list-short e = let t = back (fullIn s n h) (listAfter n h) p e in short-after t.first t.next
+  pub list-short : list_in s n h ≡ gives p → p.bytes ≤ h.length
+  unfolding list_in
+  list-short e = let t = back (full_in s n h) (list_after n h) p e in short-after t.first t.next
 
 -- behind checks 1 to 5
 module _ (s : List ℕ) (n : RecordNumber) (at : ℕ) where
-  pub name-of-fits : (p : Span) → nameOf s n at ≡ gives p → Fits s p
-  unfolding nameOf
+  pub name-of-fits : (p : Span) → name_of s n at ≡ gives p → Fits s p
+  unfolding name_of
   name-of-fits p e =
-      let t = back (attributeOf s n at) (nameIn n) p e in
+      let t = back (attribute_of s n at) (name_in n) p e in
       name-fits s n t.first (of-attribute s n at t.first t.gave) p t.next
 
   pub value-of-fits : (v : Value) → value_of s n at ≡ gives v → Fits s (span_of v)
   unfolding value_of
   value-of-fits v e =
-      let t = back (attributeOf s n at) (valueIn s n) v e in
+      let t = back (attribute_of s n at) (value_in s n) v e in
       value-fits s n t.first (of-attribute s n at t.first t.gave) v t.next

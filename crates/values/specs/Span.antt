@@ -6,9 +6,9 @@ use Rattle.values.specs.declared.Spanned.{Spanned}
 use Rattle.values.specs.declared.Spanned.TheVariants as spanned
 
 -- the answer of a call that says where bytes stand, case by case
-abbrev pub toldSpanned : Spanned → Answer Span
-toldSpanned (spanned.At p) = gives p
-toldSpanned (spanned.Refused r) = refuses r
+abbrev pub told_spanned : Spanned → Answer Span
+told_spanned (spanned.At p) = gives p
+told_spanned (spanned.Refused r) = refuses r
 
 abbrev pub span : ℕ → ℕ → Span
 span f b = record { from = f; bytes = b }

@@ -2,9 +2,9 @@
 ghost use Rattle.std.specs.Prelude.{◌≡◌, ◌+◌, ◌≤◌, length};
 ghost use Rattle.fields.specs.Answer.{refuses, refusal};
 ghost use Rattle.raw.specs.Attribute.{Inside};
-ghost use Rattle.values.specs.Span.{toldSpanned, bytes_at};
-ghost use Rattle.values.specs.Name.{nameIn};
-ghost use Rattle.values.specs.Value.{toldFull, residentAt, nonResidentAt, fullIn, residentSpan, runsSpan, toldValued, valueIn, listIn};
+ghost use Rattle.values.specs.Span.{told_spanned, bytes_at};
+ghost use Rattle.values.specs.Name.{name_in};
+ghost use Rattle.values.specs.Value.{told_full, resident_at, non_resident_at, full_in, resident_span, runs_span, told_valued, value_in, list_in};
 
 use crate::{FullHeader, NonResidentHeader, ResidentHeader, Span, Spanned, Valued};
 use fields::inner::{u16_at, u32_at, u64_at};
@@ -22,7 +22,7 @@ pub fn part<'a>(s: &'a [u8], p: Span) -> &'a [u8]
 }
 
 fn no_span(n: u8, number: RecordNumber, place: usize) -> Spanned
-    ensures { toldSpanned result ≡ refuses (refusal n number place) }
+    ensures { told_spanned result ≡ refuses (refusal n number place) }
 {
     Spanned::Refused(Refusal {
         number: n,
@@ -34,7 +34,7 @@ fn no_span(n: u8, number: RecordNumber, place: usize) -> Spanned
 // Where an attribute's name stands: 8, then 9.
 pub fn name_of(number: RecordNumber, h: Attribute) -> Spanned
     requires { h.offset + h.length ≤ 4096 }
-    ensures { toldSpanned result ≡ nameIn number h }
+    ensures { told_spanned result ≡ name_in number h }
 {
     let name = h.name as usize;
     let bytes = 2 * (h.units as usize);
@@ -58,7 +58,7 @@ pub fn name_of(number: RecordNumber, h: Attribute) -> Spanned
 
 fn read_resident(s: &[u8], at: usize) -> ResidentHeader
     requires { at + 24 ≤ length s.now }
-    ensures { result ≡ residentAt s.now at }
+    ensures { result ≡ resident_at s.now at }
 {
     ResidentHeader {
         bytes: u32_at(s, at + 16),
@@ -68,7 +68,7 @@ fn read_resident(s: &[u8], at: usize) -> ResidentHeader
 
 fn read_non_resident(s: &[u8], at: usize) -> NonResidentHeader
     requires { at + 64 ≤ length s.now }
-    ensures { result ≡ nonResidentAt s.now at }
+    ensures { result ≡ non_resident_at s.now at }
 {
     NonResidentHeader {
         lowest: Vcn(u64_at(s, at + 16)),
@@ -81,7 +81,7 @@ fn read_non_resident(s: &[u8], at: usize) -> NonResidentHeader
 }
 
 fn too_short(number: RecordNumber, h: Attribute) -> FullHeader
-    ensures { toldFull result ≡ refuses (refusal 7 number h.offset) }
+    ensures { told_full result ≡ refuses (refusal 7 number h.offset) }
 {
     FullHeader::Refused(Refusal {
         number: 7,
@@ -93,7 +93,7 @@ fn too_short(number: RecordNumber, h: Attribute) -> FullHeader
 // An attribute's full header: 7.
 pub fn full_of(s: &[u8], number: RecordNumber, h: Attribute) -> FullHeader
     requires { Inside s.now h }
-    ensures { toldFull result ≡ fullIn s.now number h }
+    ensures { told_full result ≡ full_in s.now number h }
 {
     let at = h.offset;
     if h.resident {
@@ -111,7 +111,7 @@ pub fn full_of(s: &[u8], number: RecordNumber, h: Attribute) -> FullHeader
 // Where a resident value stands: 10, then 11.
 fn resident_span(number: RecordNumber, h: Attribute, f: ResidentHeader) -> Spanned
     requires { h.offset + h.length ≤ 4096 }
-    ensures { toldSpanned result ≡ residentSpan number h f }
+    ensures { told_spanned result ≡ resident_span number h f }
 {
     let value = f.value as usize;
     let bytes = f.bytes as usize;
@@ -130,7 +130,7 @@ fn resident_span(number: RecordNumber, h: Attribute, f: ResidentHeader) -> Spann
 // Where the run bytes stand: 12.
 pub fn runs_span(number: RecordNumber, h: Attribute, f: NonResidentHeader) -> Valued
     requires { h.offset + h.length ≤ 4096 }
-    ensures { toldValued result ≡ runsSpan number h f }
+    ensures { told_valued result ≡ runs_span number h f }
 {
     let runs = f.runs as usize;
     if h.length < runs {
@@ -152,7 +152,7 @@ pub fn runs_span(number: RecordNumber, h: Attribute, f: NonResidentHeader) -> Va
 // Where an attribute's value stands: 7, then 10 and 11, or 12.
 pub fn value_of(s: &[u8], number: RecordNumber, h: Attribute) -> Valued
     requires { Inside s.now h }
-    ensures { toldValued result ≡ valueIn s.now number h }
+    ensures { told_valued result ≡ value_in s.now number h }
 {
     let f = full_of(s, number, h);
     match f {
@@ -171,7 +171,7 @@ pub fn value_of(s: &[u8], number: RecordNumber, h: Attribute) -> Valued
 // Where the list of an attribute that holds one stands: 7, then 10 and 11, or 13.
 pub fn list_of(s: &[u8], number: RecordNumber, h: Attribute) -> Spanned
     requires { Inside s.now h }
-    ensures { toldSpanned result ≡ listIn s.now number h }
+    ensures { told_spanned result ≡ list_in s.now number h }
 {
     let f = full_of(s, number, h);
     match f {

@@ -4,9 +4,9 @@
 pub mod inner;
 
 ghost use Rattle.std.specs.Prelude.{◌≡◌};
-ghost use Rattle.values.specs.Span.{toldSpanned, view_of};
-ghost use Rattle.values.specs.Name.{nameOf};
-ghost use Rattle.values.specs.Value.{toldFull, full_of, toldValued, value_of, valueSpan};
+ghost use Rattle.values.specs.Span.{told_spanned, view_of};
+ghost use Rattle.values.specs.Name.{name_of};
+ghost use Rattle.values.specs.Value.{told_full, full_of, told_valued, value_of, value_span};
 
 use fields::{RecordNumber, Refusal, Vcn};
 use raw::{Checked, attribute_at};
@@ -61,7 +61,7 @@ pub enum Valued {
 
 // Where the name of the attribute at an offset stands: checks 1 to 5, then 8 and 9.
 pub fn name(s: &[u8], number: RecordNumber, at: usize) -> Spanned
-    ensures { toldSpanned result ≡ nameOf s.now number at }
+    ensures { told_spanned result ≡ name_of s.now number at }
 {
     let a = attribute_at(s, number, at);
     match a {
@@ -72,7 +72,7 @@ pub fn name(s: &[u8], number: RecordNumber, at: usize) -> Spanned
 
 // The name itself, a part of the record; the empty slice where `name` refuses.
 pub fn name_view<'a>(s: &'a [u8], number: RecordNumber, at: usize) -> &'a [u8]
-    ensures { result.now ≡ view_of s.now (nameOf s.now number at) }
+    ensures { result.now ≡ view_of s.now (name_of s.now number at) }
 {
     let p = name(s, number, at);
     match p {
@@ -83,7 +83,7 @@ pub fn name_view<'a>(s: &'a [u8], number: RecordNumber, at: usize) -> &'a [u8]
 
 // The full header of the attribute at an offset: checks 1 to 5, then 7.
 pub fn full(s: &[u8], number: RecordNumber, at: usize) -> FullHeader
-    ensures { toldFull result ≡ full_of s.now number at }
+    ensures { told_full result ≡ full_of s.now number at }
 {
     let a = attribute_at(s, number, at);
     match a {
@@ -94,7 +94,7 @@ pub fn full(s: &[u8], number: RecordNumber, at: usize) -> FullHeader
 
 // Where the value of the attribute at an offset stands: checks 1 to 5, then 7, then 10 and 11, or 12.
 pub fn value(s: &[u8], number: RecordNumber, at: usize) -> Valued
-    ensures { toldValued result ≡ value_of s.now number at }
+    ensures { told_valued result ≡ value_of s.now number at }
 {
     let a = attribute_at(s, number, at);
     match a {
@@ -105,7 +105,7 @@ pub fn value(s: &[u8], number: RecordNumber, at: usize) -> Valued
 
 // The resident value itself, or the run bytes, a part of the record; the empty slice where `value` refuses.
 pub fn value_view<'a>(s: &'a [u8], number: RecordNumber, at: usize) -> &'a [u8]
-    ensures { result.now ≡ view_of s.now (valueSpan s.now number at) }
+    ensures { result.now ≡ view_of s.now (value_span s.now number at) }
 {
     let v = value(s, number, at);
     match v {
