@@ -1,16 +1,15 @@
 -- An attribute that checks 3 to 5 gave is the one that stands there, is at least 16 long and ends inside the record.
 use Prim.Native.Nat.{ℕ, ◌+◌, ◌≤◌}
-use mathlib.Core.Path.{◌≡◌, sym, ap}
+use mathlib.Core.Path.{◌≡◌, ap}
 use mathlib.Core.List.{List}
 use native.Mathlib.Omega.{arith}
 use Rattle.std.proofs.lemmas.Bool.Decides.{nat_tests}
-use borrow.Author.Tests.{ltb-false}
 use lib.ListN.{length}
 use Rattle.fields.specs.Answer.{gives}
 use Rattle.fields.specs.Open.{open_of}
 use Rattle.fields.specs.declared.RecordNumber.{RecordNumber}
 use Rattle.fields.proofs.Cases.{not_first}
-use Rattle.fields.proofs.Answers.{refused-given, ended-given, the-given, back}
+use Rattle.fields.proofs.Answers.{ended-given, back}
 use Rattle.fields.proofs.Opens.{opened_sized}
 use Rattle.raw.specs.Attribute.{attribute_at, checked_at, attribute_of, Inside}
 use Rattle.raw.specs.Step.{step_at, step_of}

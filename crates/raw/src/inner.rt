@@ -9,6 +9,7 @@ use crate::{Attribute, Checked, Found, RawStep};
 use fields::inner::{u16_at, u32_at};
 use fields::{RecordNumber, Refusal};
 
+#[tactic(auto, unfolding(crate::specs::Attribute::attribute_at))]
 fn read_attribute(s: &[u8], at: usize) -> Attribute
     requires { at + 16 ≤ length s.now }
     ensures { result ≡ attribute_at s.now at }
@@ -36,6 +37,7 @@ fn no_attribute(n: u8, number: RecordNumber, place: usize) -> Checked
 }
 
 // Checks 3, 4 and 5: the one place where they are made.
+#[tactic(auto, unfolding(crate::specs::Attribute::checked_at))]
 pub fn checked_at(s: &[u8], number: RecordNumber, at: usize) -> Checked
     ensures { told_checked result ≡ checked_at s.now number at }
 {
@@ -57,6 +59,7 @@ pub fn checked_at(s: &[u8], number: RecordNumber, at: usize) -> Checked
 }
 
 // One step of the raw walk at any place.
+#[tactic(auto, unfolding(crate::specs::Step::step_at))]
 pub fn step(s: &[u8], number: RecordNumber, at: usize) -> RawStep
     ensures { told_step result ≡ step_at s.now number at }
 {
@@ -76,6 +79,7 @@ pub fn step(s: &[u8], number: RecordNumber, at: usize) -> RawStep
     }
 }
 
+#[tactic(auto, unfolding(crate::specs::Find::is_it))]
 fn is_it(h: Attribute, ty: u32, instance: u16) -> bool
     ensures { result ≡ is_it h ty instance }
 {

@@ -46,6 +46,7 @@ pub struct Found {
 }
 
 // One step of the raw walk at any place: checks 1 and 2, then the attribute there, the end, or 3 to 5.
+#[tactic(auto, unfolding(crate::specs::Step::step_of))]
 pub fn step(s: &[u8], number: RecordNumber, at: usize) -> RawStep
     ensures { told_step result ≡ step_of s.now number at }
 {
@@ -57,6 +58,7 @@ pub fn step(s: &[u8], number: RecordNumber, at: usize) -> RawStep
 }
 
 // The attribute at an offset, behind checks 1 to 5.
+#[tactic(auto, unfolding(crate::specs::Attribute::attribute_of))]
 pub fn attribute_at(s: &[u8], number: RecordNumber, at: usize) -> Checked
     ensures { told_checked result ≡ attribute_of s.now number at }
 {
