@@ -20,17 +20,21 @@ module _ (t : List ℕ) (h : Numbers) where
   abbrev pub GoodAt : ℕ → Type 0
   GoodAt i = good_row (length t) h (least_at t h i) (row_at t h i) ≡ true
 
-  pub none-checked : rows_checked t h 0 ≡ gives tt
+  pub none_checked : rows_checked t h 0 ≡ gives tt
   unfolding rows_checked
-  none-checked = refl
+  none_checked = refl
+
+  pub first_least : least_at t h 0 ≡ 0
+  unfolding least_at
+  first_least = refl
 
   pub one_more : (i : ℕ) → rows_checked t h i ≡ gives tt → GoodAt i → rows_checked t h (i + 1) ≡ gives tt
   unfolding rows_checked row_checked
   one_more i e g = rw add-one (sym (onward _ (sym e) (yes _ _ _ g refl)))
 
-  pub next-least : (i : ℕ) → least_at t h (i + 1) ≡ (row_at t h i).number.0 + 1
+  pub next_least : (i : ℕ) → least_at t h (i + 1) ≡ (row_at t h i).number.0 + 1
   unfolding least_at
-  next-least i = rw (add-one i) refl
+  next_least i = rw (add-one i) refl
 
   stays : (r : Refusal) (i k : ℕ) → rows_checked t h i ≡ refuses r → i ≤ k → rows_checked t h k ≡ refuses r
   unfolding rows_checked
@@ -42,10 +46,10 @@ module _ (t : List ℕ) (h : Numbers) where
       (eq-or-lt_of_le l)
 
   -- the first row that is not good decides, whatever stands behind it
-  pub first-fault : (i : ℕ) → i < h.count → rows_checked t h i ≡ gives tt → good_row (length t) h (least_at t h i) (row_at t h i) ≡ false
+  pub first_fault : (i : ℕ) → i < h.count → rows_checked t h i ≡ gives tt → good_row (length t) h (least_at t h i) (row_at t h i) ≡ false
       → refuses (malformed (row_at t h i).place) ≡ rows_of t h
   unfolding rows_of rows_checked row_checked
-  first-fault i l e g = halted _ (sym (stays _ (suc i) h.count (sym (onward _ (sym e) (no _ _ _ g refl))) l))
+  first_fault i l e g = halted _ (sym (stays _ (suc i) h.count (sym (onward _ (sym e) (no _ _ _ g refl))) l))
 
   pub last_row : (i : ℕ) → i ≡ h.count → rows_checked t h i ≡ gives tt → gives h ≡ rows_of t h
   unfolding rows_of

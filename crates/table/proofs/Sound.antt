@@ -32,9 +32,9 @@ pub record Head (t : List ℕ) (h : Numbers) : Type 0 where
   pub ends : h.records ≤ length t
   pub based : h.base ≤ h.count
 
-pub head-sound : (t : List ℕ) (h : Numbers) → head_of t ≡ gives h → Head t h
+pub head_sound : (t : List ℕ) (h : Numbers) → head_of t ≡ gives h → Head t h
 unfolding head_of good_numbers
-head-sound t h e =
+head_sound t h e =
     let q : h ≡ numbers_at t = grind (arith, nat_tests) in
     record {
       is = q;
@@ -46,6 +46,10 @@ head-sound t h e =
       based = grind (arith, nat_tests);
     }
 
+-- the directory lies inside the table
+pub directory_inside : (t : List ℕ) (h : Numbers) → head_of t ≡ gives h → h.directory + width * h.count ≤ length t
+directory_inside t h e = let d = head_sound t h e in omega arith
+
 -- the faults of a row are absent
 pub record Fits (m : ℕ) (h : Numbers) (least : ℕ) (r : Row) : Type 0 where
   pub small : r.number.0 < 0x1000000000000
@@ -53,9 +57,9 @@ pub record Fits (m : ℕ) (h : Numbers) (least : ℕ) (r : Row) : Type 0 where
   pub starts : h.records ≤ r.offset
   pub stops : r.offset + h.size ≤ m
 
-pub row-sound : (m : ℕ) (h : Numbers) (least : ℕ) (r : Row) → good_row m h least r ≡ true → Fits m h least r
+pub row_sound : (m : ℕ) (h : Numbers) (least : ℕ) (r : Row) → good_row m h least r ≡ true → Fits m h least r
 unfolding good_row
-row-sound m h least r e = record {
+row_sound m h least r e = record {
   small = grind (arith, nat_tests);
   above = grind (arith, nat_tests);
   starts = grind (arith, nat_tests);
@@ -72,7 +76,7 @@ pub record Sound (t : List ℕ) (h : Numbers) : Type 0 where
 
 module _ (t : List ℕ) (h : Numbers) (all : (i : ℕ) → i < h.count → GoodAt t h i) where
   fits : (i : ℕ) → i < h.count → Fits (length t) h (least_at t h i) (row_at t h i)
-  fits i l = row-sound _ _ _ _ (all i l)
+  fits i l = row_sound _ _ _ _ (all i l)
 
   rising : (i j : ℕ) → i < j → j < h.count → (row_at t h i).number.0 < (row_at t h j).number.0
   unfolding least_at
@@ -91,7 +95,7 @@ sound t h e =
     let a = back (head_of t) (rows_of t) h e in
     let b = back (rows_checked t a.first a.first.count) _ h a.next in
     let q : a.first ≡ h = the-given b.next in
-    let d : Head t h = subst (Head t) q (head-sound t a.first a.gave) in
+    let d : Head t h = subst (Head t) q (head_sound t a.first a.gave) in
     let all = subst (λ (x : Numbers). (i : ℕ) → i < x.count → GoodAt t x i) q (all-good t a.first a.first.count b.gave) in
     record {
       head = d;

@@ -9,6 +9,7 @@ use fields::inner::{u32_at, u64_at};
 // The bytes of a directory row.
 pub const WIDTH: usize = 12;
 
+#[tactic(auto, unfolding(crate::specs::Layout::row_in))]
 fn row_in(t: &[u8], at: usize) -> Row
     requires { at + width ≤ length t.now }
     ensures { result ≡ row_in t.now at }
@@ -21,6 +22,7 @@ fn row_in(t: &[u8], at: usize) -> Row
 }
 
 // Row i of the directory.
+#[tactic(auto, unfolding(crate::specs::Layout::row_at))]
 pub fn row_at(t: &[u8], h: Numbers, i: usize) -> Row
     requires { h.directory + width * i + width ≤ length t.now }
     ensures { result ≡ row_at t.now h i }

@@ -55,6 +55,7 @@ fn no_table(place: usize) -> Tested
 }
 
 // Whether the five numbers suit each other and a table of m bytes.
+#[tactic(auto, unfolding(crate::specs::Check::good_numbers))]
 fn good_numbers(m: usize, h: Numbers) -> bool
     ensures { result ≡ good_numbers m h }
 {
@@ -84,6 +85,7 @@ fn good_numbers(m: usize, h: Numbers) -> bool
     false
 }
 
+#[tactic(auto, unfolding(crate::specs::Layout::numbers_at))]
 fn numbers_at(t: &[u8]) -> Numbers
     requires { 20 ≤ length t.now }
     ensures { result ≡ numbers_at t.now }
@@ -97,6 +99,7 @@ fn numbers_at(t: &[u8]) -> Numbers
     }
 }
 
+#[tactic(auto, unfolding(crate::specs::Check::head_of))]
 fn check_head(t: &[u8]) -> Tested
     ensures { told_tested result ≡ head_of t.now }
 {
@@ -111,6 +114,7 @@ fn check_head(t: &[u8]) -> Tested
 }
 
 // Whether a row's number is below 2^48 and at least `least`, and its record lies between the records offset and the end of a table of m bytes.
+#[tactic(auto, unfolding(crate::specs::Check::good_row))]
 fn good_row(m: usize, h: Numbers, least: u64, r: Row) -> bool
     ensures { result ≡ good_row m h least r }
 {
@@ -134,26 +138,25 @@ fn good_row(m: usize, h: Numbers, least: u64, r: Row) -> bool
 }
 
 // The rows one after another. A row's number must be above the one before it, so `least` is that number and one more.
+#[tactic(auto, using(crate::proofs::Sound::directory_inside, crate::proofs::Sound::row_sound, crate::proofs::Rows::none_checked, crate::proofs::Rows::first_least, crate::proofs::Rows::one_more, crate::proofs::Rows::next_least, crate::proofs::Rows::first_fault, crate::proofs::Rows::last_row))]
 fn check_rows(t: &[u8], h: Numbers) -> Tested
     requires { head_of t.now ≡ gives h }
     ensures { told_tested result ≡ rows_of t.now h }
 {
     let rows = h.count as usize;
     let mut least: u64 = 0;
-    let mut i: usize = 0;
-    while i < rows {
+    for i in 0..rows {
         let r = inner::row_at(t, h, i);
-        if good_row(t.len(), h, least, r) {
-            least = r.number.0 + 1;
-            i += 1;
-        } else {
+        if !good_row(t.len(), h, least, r) {
             return no_table(r.place);
         }
+        least = r.number.0 + 1;
     }
     Tested::Sound(h)
 }
 
 // Check 21: the table's five numbers, or the first fault of the header (at 0) or of a row (where that row stands).
+#[tactic(auto, unfolding(crate::specs::Check::table_of))]
 pub fn check(t: &[u8]) -> Tested
     ensures { told_tested result ≡ table_of t.now }
 {
@@ -165,6 +168,7 @@ pub fn check(t: &[u8]) -> Tested
 }
 
 // The base row, if the table has one.
+#[tactic(auto, unfolding(crate::specs::Held::base_row))]
 pub fn base_row(h: Numbers) -> RowFound
     ensures { told_row result ≡ base_row h }
 {
@@ -175,6 +179,7 @@ pub fn base_row(h: Numbers) -> RowFound
 }
 
 // Checks 21, 1 and 2, which every call with a table makes before its steps: the table's numbers, or the first refusal.
+#[tactic(auto, unfolding(crate::specs::Check::open_table))]
 pub fn opening(base: &[u8], number: RecordNumber, t: &[u8]) -> Tested
     ensures { told_tested result ≡ open_table base.now number t.now }
 {
