@@ -31,31 +31,18 @@ valued s e f = subst (λ (x : Value). Fits s (span_of x)) (the-given e) f
 module _ (s : List ℕ) (n : RecordNumber) (h : Attribute) (i : Inside s h) where
   pub name-fits : (p : Span) → name_in n h ≡ gives p → Fits s p
   unfolding name_in
-  name-fits p e =
-      ⊎_elim (λ a. moved s a (omega arith))
-      (λ e₁. ⊎_elim (λ a. moved s a (omega arith))
-      (λ e₂.
-      let e₃ = not-second _ _ _ _ e₂ refused-given in
-      let e₄ = not_first _ _ _ _ e₃.1 refused-given in
-      moved s e₄.1 (grind (arith, nat_tests)))
-      (either _ _ _ _ e₁))
-      (either _ _ _ _ e)
+  name-fits p e = let a = i.least in let b = i.most in grind (arith, nat_tests)
 
   resident-fits : (f : ResidentHeader) (p : Span) → resident_span n h f ≡ gives p → Fits s p
   unfolding resident_span
-  resident-fits f p e =
-      let e₁ = not_first _ _ _ _ e refused-given in
-      let e₂ = not_first _ _ _ _ e₁.1 refused-given in
-      moved s e₂.1 (grind (arith, nat_tests))
+  resident-fits f p e = let b = i.most in grind (arith, nat_tests)
 
   valued-after : (f : Full) (v : Value) → value_after n h f ≡ gives v → Fits s (span_of v)
   unfolding value_after span_of runs_span
   valued-after (resident f) v e =
       let t = back (resident_span n h f) (λ p. gives (in_record p)) v e in
       valued s t.next (resident-fits f t.first t.gave)
-  valued-after (non_resident f) v e =
-      let e₁ = not_first _ _ _ _ e refused-given in
-      valued s e₁.1 (grind (arith, nat_tests))
+  valued-after (non_resident f) v e = let b = i.most in grind (arith, nat_tests)
 
   pub value-fits : (v : Value) → value_in s n h ≡ gives v → Fits s (span_of v)
   unfolding value_in
@@ -74,11 +61,7 @@ module _ (s : List ℕ) (n : RecordNumber) (h : Attribute) (i : Inside s h) wher
 module _ (s : List ℕ) (n : RecordNumber) (h : Attribute) (p : Span) where
   resident-short : (f : ResidentHeader) → resident_span n h f ≡ gives p → p.bytes ≤ h.length
   unfolding resident_span
-  resident-short f e =
-      let e₁ = not_first _ _ _ _ e refused-given in
-      let e₂ = not_first _ _ _ _ e₁.1 refused-given in
-      let b = ap (λ (x : Span). x.bytes) (the-given e₂.1) in
-      grind (arith, nat_tests)
+  resident-short f e = grind (arith, nat_tests)
 
   short-after : (f : Full) → list_after n h f ≡ gives p → p.bytes ≤ h.length
   unfolding list_after
