@@ -36,6 +36,7 @@ pub struct Listed {
     pub name: [u8; 510],
 }
 
+#[tactic(auto, unfolding(crate::specs::Entry::entry_at))]
 fn read_entry(rest: &[u8]) -> Entry
     requires { 26 ≤ length rest.now }
     ensures { result ≡ entry_at rest.now }
@@ -61,6 +62,7 @@ fn no_entry(n: u8, base: RecordNumber, place: usize) -> EntryStep
 }
 
 // The entry's header alone, for walks that do not look at names. A refusal is told with the base's number and the part's place.
+#[tactic(auto, unfolding(crate::specs::Entry::entry_of))]
 pub fn header(rest: &[u8], base: RecordNumber, place: usize) -> EntryStep
     ensures { told_entry result ≡ entry_of rest.now base place }
 {
@@ -87,7 +89,8 @@ pub fn header(rest: &[u8], base: RecordNumber, place: usize) -> EntryStep
 
 // The n bytes from byte 26 on, then zeros.
 fn name_of(rest: &[u8], n: usize) -> [u8; 510]
-    requires { (n ≤ 510) × (26 + n ≤ length rest.now) }
+    requires room { n ≤ 510 }
+    requires there { 26 + n ≤ length rest.now }
     ensures { result ≡ name_of rest.now n }
 {
     let mut name = [0u8; 510];
@@ -96,6 +99,7 @@ fn name_of(rest: &[u8], n: usize) -> [u8; 510]
 }
 
 // The entry with its name; the name is zeros where no entry is given.
+#[tactic(auto, using(crate::proofs::Given::given), unfolding(crate::specs::Listed::listed_of, crate::specs::Listed::name_in, crate::specs::Listed::no_name))]
 pub fn step(rest: &[u8], base: RecordNumber, place: usize) -> Listed
     ensures { told_listed result ≡ listed_of rest.now base place }
 {
