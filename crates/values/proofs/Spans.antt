@@ -1,19 +1,16 @@
 -- A name, a value, the runs and a list that a call tells of lie inside the record: each ends inside its attribute, which does.
 use Prim.Native.Nat.{ℕ, ◌+◌, ◌≤◌}
-use mathlib.Core.Path.{◌≡◌, ap, subst}
-use mathlib.Core.Logic.{⊎_elim}
+use mathlib.Core.Path.{◌≡◌}
 use mathlib.Core.List.{List}
 use native.Mathlib.Omega.{arith}
 use Rattle.std.proofs.lemmas.Bool.Decides.{nat_tests}
-use borrow.Author.Tests.{ltb-false}
 use lib.ListN.{length}
 use Rattle.fields.specs.Answer.{gives}
 use Rattle.fields.specs.declared.RecordNumber.{RecordNumber}
-use Rattle.fields.proofs.Cases.{not_first, not-second, either}
-use Rattle.fields.proofs.Answers.{refused-given, the-given, back}
+use Rattle.fields.proofs.Answers.{refused-given, back}
 use Rattle.raw.specs.Attribute.{attribute_of, Inside}
 use Rattle.values.specs.Name.{name_in, name_of}
-use Rattle.values.specs.Value.{Full, resident, non_resident, full_in, resident_span, runs_span, Value, in_record, value_after, value_in, value_of, span_of, list_after, list_in}
+use Rattle.values.specs.Value.{Full, resident, non_resident, full_in, resident_span, runs_span, Value, in_record, in_runs, value_after, value_in, value_of, span_of, list_after, list_in}
 use Rattle.raw.specs.declared.Attribute.{Attribute}
 use Rattle.values.specs.declared.ResidentHeader.{ResidentHeader}
 use Rattle.values.specs.declared.Span.{Span}
@@ -22,27 +19,22 @@ use Rattle.raw.proofs.Given.{of-attribute}
 abbrev pub Fits : List ℕ → Span → Type 0
 Fits s p = p.from + p.bytes ≤ length s
 
-moved : (s : List ℕ) {p q : Span} → gives p ≡ gives q → Fits s p → Fits s q
-moved s e f = subst (Fits s) (the-given e) f
-
-valued : (s : List ℕ) {v w : Value} → gives v ≡ gives w → Fits s (span_of v) → Fits s (span_of w)
-valued s e f = subst (λ (x : Value). Fits s (span_of x)) (the-given e) f
-
 module _ (s : List ℕ) (n : RecordNumber) (h : Attribute) (i : Inside s h) where
   pub name-fits : (p : Span) → name_in n h ≡ gives p → Fits s p
   unfolding name_in
-  name-fits p e = let a = i.least in let b = i.most in grind (arith, nat_tests)
+  name-fits p e = grind (arith, nat_tests)
 
   resident-fits : (f : ResidentHeader) (p : Span) → resident_span n h f ≡ gives p → Fits s p
   unfolding resident_span
-  resident-fits f p e = let b = i.most in grind (arith, nat_tests)
+  resident-fits f p e = grind (arith, nat_tests)
 
   valued-after : (f : Full) (v : Value) → value_after n h f ≡ gives v → Fits s (span_of v)
   unfolding value_after span_of runs_span
   valued-after (resident f) v e =
       let t = back (resident_span n h f) (λ p. gives (in_record p)) v e in
-      valued s t.next (resident-fits f t.first t.gave)
-  valued-after (non_resident f) v e = let b = i.most in grind (arith, nat_tests)
+      let k = resident-fits f t.first t.gave in
+      grind arith
+  valued-after (non_resident f) v e = grind (arith, nat_tests)
 
   pub value-fits : (v : Value) → value_in s n h ≡ gives v → Fits s (span_of v)
   unfolding value_in
@@ -85,3 +77,15 @@ module _ (s : List ℕ) (n : RecordNumber) (at : ℕ) where
   value-of-fits v e =
       let t = back (attribute_of s n at) (value_in s n) v e in
       value-fits s n t.first (of-attribute s n at t.first t.gave) v t.next
+
+  pub resident-of-fits : (p : Span) → value_of s n at ≡ gives (in_record p) → Fits s p
+  unfolding span_of
+  resident-of-fits p e = value-of-fits (in_record p) e
+
+  pub runs-of-fits : (p : Span) (size : ℕ) → value_of s n at ≡ gives (in_runs p size) → Fits s p
+  unfolding span_of
+  runs-of-fits p size e = value-of-fits (in_runs p size) e
+
+pub ruleset names = (name-of-fits)
+
+pub ruleset values = (resident-of-fits, runs-of-fits)

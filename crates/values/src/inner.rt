@@ -12,6 +12,7 @@ use fields::{RecordNumber, Refusal, Vcn};
 use raw::Attribute;
 
 // The bytes of a span.
+#[tactic(auto, unfolding(crate::specs::Span::bytes_at))]
 pub fn part<'a>(s: &'a [u8], p: Span) -> &'a [u8]
     requires { p.from + p.bytes ≤ length s.now }
     ensures { result.now ≡ bytes_at s.now p }
@@ -32,6 +33,7 @@ fn no_span(n: u8, number: RecordNumber, place: usize) -> Spanned
 }
 
 // Where an attribute's name stands: 8, then 9.
+#[tactic(auto, unfolding(crate::specs::Name::name_in))]
 pub fn name_of(number: RecordNumber, h: Attribute) -> Spanned
     requires { h.offset + h.length ≤ 4096 }
     ensures { told_spanned result ≡ name_in number h }
@@ -56,6 +58,7 @@ pub fn name_of(number: RecordNumber, h: Attribute) -> Spanned
     })
 }
 
+#[tactic(auto, unfolding(crate::specs::Value::resident_at))]
 fn read_resident(s: &[u8], at: usize) -> ResidentHeader
     requires { at + 24 ≤ length s.now }
     ensures { result ≡ resident_at s.now at }
@@ -66,6 +69,7 @@ fn read_resident(s: &[u8], at: usize) -> ResidentHeader
     }
 }
 
+#[tactic(auto, unfolding(crate::specs::Value::non_resident_at))]
 fn read_non_resident(s: &[u8], at: usize) -> NonResidentHeader
     requires { at + 64 ≤ length s.now }
     ensures { result ≡ non_resident_at s.now at }
@@ -91,6 +95,7 @@ fn too_short(number: RecordNumber, h: Attribute) -> FullHeader
 }
 
 // An attribute's full header: 7.
+#[tactic(auto, unfolding(crate::specs::Value::full_in))]
 pub fn full_of(s: &[u8], number: RecordNumber, h: Attribute) -> FullHeader
     requires { Inside s.now h }
     ensures { told_full result ≡ full_in s.now number h }
@@ -109,6 +114,7 @@ pub fn full_of(s: &[u8], number: RecordNumber, h: Attribute) -> FullHeader
 }
 
 // Where a resident value stands: 10, then 11.
+#[tactic(auto, unfolding(crate::specs::Value::resident_span))]
 fn resident_span(number: RecordNumber, h: Attribute, f: ResidentHeader) -> Spanned
     requires { h.offset + h.length ≤ 4096 }
     ensures { told_spanned result ≡ resident_span number h f }
@@ -128,6 +134,7 @@ fn resident_span(number: RecordNumber, h: Attribute, f: ResidentHeader) -> Spann
 }
 
 // Where the run bytes stand: 12.
+#[tactic(auto, unfolding(crate::specs::Value::runs_span))]
 pub fn runs_span(number: RecordNumber, h: Attribute, f: NonResidentHeader) -> Valued
     requires { h.offset + h.length ≤ 4096 }
     ensures { told_valued result ≡ runs_span number h f }
@@ -150,6 +157,7 @@ pub fn runs_span(number: RecordNumber, h: Attribute, f: NonResidentHeader) -> Va
 }
 
 // Where an attribute's value stands: 7, then 10 and 11, or 12.
+#[tactic(auto, unfolding(crate::specs::Value::value_in, crate::specs::Value::value_after))]
 pub fn value_of(s: &[u8], number: RecordNumber, h: Attribute) -> Valued
     requires { Inside s.now h }
     ensures { told_valued result ≡ value_in s.now number h }
@@ -169,6 +177,7 @@ pub fn value_of(s: &[u8], number: RecordNumber, h: Attribute) -> Valued
 }
 
 // Where the list of an attribute that holds one stands: 7, then 10 and 11, or 13.
+#[tactic(auto, unfolding(crate::specs::Value::list_in, crate::specs::Value::list_after))]
 pub fn list_of(s: &[u8], number: RecordNumber, h: Attribute) -> Spanned
     requires { Inside s.now h }
     ensures { told_spanned result ≡ list_in s.now number h }

@@ -60,6 +60,7 @@ pub enum Valued {
 }
 
 // Where the name of the attribute at an offset stands: checks 1 to 5, then 8 and 9.
+#[tactic(auto, using(raw::proofs::Given::attributes), unfolding(crate::specs::Name::name_of))]
 pub fn name(s: &[u8], number: RecordNumber, at: usize) -> Spanned
     ensures { told_spanned result ≡ name_of s.now number at }
 {
@@ -71,6 +72,7 @@ pub fn name(s: &[u8], number: RecordNumber, at: usize) -> Spanned
 }
 
 // The name itself, a part of the record; the empty slice where `name` refuses.
+#[tactic(auto, using(crate::proofs::Spans::names), unfolding(crate::specs::Span::view_of))]
 pub fn name_view<'a>(s: &'a [u8], number: RecordNumber, at: usize) -> &'a [u8]
     ensures { result.now ≡ view_of s.now (name_of s.now number at) }
 {
@@ -82,6 +84,7 @@ pub fn name_view<'a>(s: &'a [u8], number: RecordNumber, at: usize) -> &'a [u8]
 }
 
 // The full header of the attribute at an offset: checks 1 to 5, then 7.
+#[tactic(auto, using(raw::proofs::Given::attributes), unfolding(crate::specs::Value::full_of))]
 pub fn full(s: &[u8], number: RecordNumber, at: usize) -> FullHeader
     ensures { told_full result ≡ full_of s.now number at }
 {
@@ -93,6 +96,7 @@ pub fn full(s: &[u8], number: RecordNumber, at: usize) -> FullHeader
 }
 
 // Where the value of the attribute at an offset stands: checks 1 to 5, then 7, then 10 and 11, or 12.
+#[tactic(auto, using(raw::proofs::Given::attributes), unfolding(crate::specs::Value::value_of))]
 pub fn value(s: &[u8], number: RecordNumber, at: usize) -> Valued
     ensures { told_valued result ≡ value_of s.now number at }
 {
@@ -104,6 +108,7 @@ pub fn value(s: &[u8], number: RecordNumber, at: usize) -> Valued
 }
 
 // The resident value itself, or the run bytes, a part of the record; the empty slice where `value` refuses.
+#[tactic(auto, using(crate::proofs::Spans::values), unfolding(crate::specs::Span::view_of, crate::specs::Value::value_span, crate::specs::Value::span_of))]
 pub fn value_view<'a>(s: &'a [u8], number: RecordNumber, at: usize) -> &'a [u8]
     ensures { result.now ≡ view_of s.now (value_span s.now number at) }
 {
