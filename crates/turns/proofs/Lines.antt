@@ -94,5 +94,5 @@ rows =
     ∷ []
 
 pub lines : map (λ r. answer_of r.asks (record_of r.long r.place r.bytes) r.place) rows ≡ map (λ r. r.says) rows
-unfolding pick le ◌⟫◌ same is_file good_length check_file open_of attribute_at checked_at attribute_of step_at step_of name_in name_of resident_at full_in resident_span value_after value_in value_of entry_at entry_of
+unfolding le same is_file good_length check_file open_of attribute_at checked_at attribute_of step_at step_of name_in name_of resident_at full_in resident_span value_after value_in value_of entry_at entry_of
 lines = refl

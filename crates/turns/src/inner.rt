@@ -38,6 +38,7 @@ pub fn no_key() -> Key
 }
 
 // Whether an entry belongs to the stream that the key was taken from. The part that begins at the entry is there for keys that hold a name.
+#[tactic(auto, unfolding(crate::specs::Key::agrees))]
 fn agrees_with(key: Key, e: Entry, part: &[u8]) -> bool
     ensures { result ≡ agrees key e part.now }
 {
@@ -51,6 +52,7 @@ fn agrees_with(key: Key, e: Entry, part: &[u8]) -> bool
 }
 
 // The key that an entry leaves.
+#[tactic(auto, unfolding(crate::specs::Key::key_of))]
 pub fn key_of(e: Entry, part: &[u8]) -> Key
     ensures { result ≡ key_of e part.now }
 {
@@ -114,8 +116,10 @@ fn close(w: State) -> State
 }
 
 // The search in a record that was looked up, and the item where it finds the attribute.
+#[tactic(auto, using(crate::proofs::Turns::few), unfolding(crate::specs::Turn::sought_turn, crate::specs::Turn::found_turn))]
 fn sought_turn(t: &[u8], number: RecordNumber, part: &[u8], w: State, e: Entry) -> Turn
-    requires { (w.list.from + e.length ≤ w.list.to) × (length t.now ≤ 4096) }
+    requires length_bound { w.list.from + e.length ≤ w.list.to }
+    requires small { length t.now ≤ 4096 }
     ensures result_value { told_turn result ≡ sought_turn part.now w e (find_of t.now e.file e.ty e.instance (refusal 18 number w.list.from)) }
     ensures reads_bound { result.reads ≤ 257 }
 {
@@ -146,6 +150,7 @@ fn sought_turn(t: &[u8], number: RecordNumber, part: &[u8], w: State, e: Entry) 
 }
 
 // An entry that the list gave, of a record other than the base and outside the key: its record, looked up.
+#[tactic(auto, using(crate::proofs::Turns::placed_small), unfolding(crate::specs::Turn::looked_turn))]
 fn looked_turn<'a>(
     base: &'a [u8],
     number: RecordNumber,
@@ -168,6 +173,7 @@ fn looked_turn<'a>(
 }
 
 // An entry that the list gave: 6, passed over, or looked up.
+#[tactic(auto, unfolding(crate::specs::Turn::given_turn))]
 fn given_turn<'a>(
     base: &'a [u8],
     number: RecordNumber,
@@ -201,6 +207,7 @@ fn given_turn<'a>(
 }
 
 // One entry of the open list.
+#[tactic(auto, using(crate::proofs::Turns::entry_within), unfolding(crate::specs::State::part_of, crate::specs::Turn::entry_turn, crate::specs::Turn::entry_after))]
 pub fn entry_turn<'a>(
     base: &'a [u8],
     number: RecordNumber,
@@ -209,7 +216,8 @@ pub fn entry_turn<'a>(
     w: State,
 ) -> Turn
     requires ready { Ready base.now t.now h }
-    requires from_le_to { (w.list.from ≤ w.list.to) × (w.list.to ≤ length base.now) }
+    requires order { w.list.from ≤ w.list.to }
+    requires most { w.list.to ≤ length base.now }
     ensures result_value { told_turn result ≡ entry_turn base.now number (record_of t.now) w }
     ensures reads_bound { result.reads ≤ 257 }
 {
@@ -225,6 +233,7 @@ pub fn entry_turn<'a>(
 }
 
 // A raw attribute that the walk came by: a list to open, or an item.
+#[tactic(auto, using(crate::proofs::Turns::opened_within), unfolding(crate::specs::Turn::raw_after, crate::specs::Turn::list_turn))]
 fn taken_turn(base: &[u8], number: RecordNumber, w: State, h: Attribute) -> Turn
     requires inside { Inside base.now h }
     requires length_in_bounds { w.raw + h.length ≤ length base.now }
@@ -274,6 +283,7 @@ fn taken_turn(base: &[u8], number: RecordNumber, w: State, h: Attribute) -> Turn
 }
 
 // One raw attribute.
+#[tactic(auto, using(crate::proofs::Turns::walked_inside, crate::proofs::Turns::walked_within), unfolding(crate::specs::Turn::raw_turn, crate::specs::Turn::raw_after))]
 pub fn raw_turn(base: &[u8], number: RecordNumber, w: State) -> Turn
     requires { length base.now ≤ 4096 }
     ensures result_value { told_turn result ≡ raw_turn base.now number w }
