@@ -5,7 +5,9 @@ use mathlib.Core.Bool.{Bool, true, false}
 use mathlib.Core.List.{List}
 use mathlib.Core.Option.{Option}
 use native.Mathlib.Omega.{arith}
+use lib.Dec.{eqb}
 use lib.ListN.{length}
+use Rattle.fields.specs.Known.{known_type}
 use Rattle.fields.specs.Pick.{pick}
 use Rattle.fields.specs.Answer.{Answer, gives, ends, refuses}
 use Rattle.fields.specs.declared.RecordNumber.{RecordNumber}
@@ -21,6 +23,7 @@ use Rattle.list.specs.Entry.{entry_of}
 use Rattle.list.specs.declared.Entry.{Entry}
 use Rattle.list.proofs.Given as entries
 use Rattle.turns.specs.State.{part_of, Lies}
+use Rattle.turns.specs.Key.{agrees}
 use Rattle.turns.specs.Turn.{Small, passes, answers, closed, past_with, passed, found_turn, sought_turn, looked_turn, given_turn, entry_after, entry_turn, list_turn, raw_after, raw_turn}
 use Rattle.items.specs.Items.{small_step, measure}
 use Rattle.turns.specs.declared.State.{State}
@@ -52,7 +55,7 @@ module _ (s : List ℕ) where
 
   -- past an entry of the open list
   past-sinks : (w : State) (e : Entry) (k : Key) → w.list.is ≡ true → entries.Given (part_of s w.list) e → Sinks w (past_with w e k)
-  unfolding measure pick
+  unfolding measure
   past-sinks w e k l g =
       let i = entry-inside s w.list e g in
       let z = g.least in
@@ -78,13 +81,13 @@ module _ (s : List ℕ) where
       given-fair : Fair w (given_turn s n look part w e)
       unfolding given_turn
       given-fair =
-          both (Fair w) _ _ _
-          (both (Fair w) _ _ _ (sinks _) (both (Fair w) _ _ _ (sinks _) (looked-fair _)))
+          both (Fair w) (known_type e.ty) _ _
+          (both (Fair w) (eqb e.file.0 n.0) _ _ (sinks _) (both (Fair w) (agrees w.key e part) _ _ (sinks _) (looked-fair _)))
           (stays (sinks _))
 
     -- with its list closed, where there was one
     closed-sinks : w.list.is ≡ true → Sinks w (closed w)
-    unfolding measure pick
+    unfolding measure
     closed-sinks l = record { less = rw l (omega arith); lies = λ m y. unlisted w _ refl }
 
     entry-fair : w.list.is ≡ true → (a : Answer Entry) → entry_of (part_of s w.list) n w.list.from ≡ a → Fair w (entry_after s n look (part_of s w.list) w a)
@@ -95,15 +98,15 @@ module _ (s : List ℕ) where
 
     -- with no list: at the same place, or past a raw attribute
     closed-stays : w.list.is ≡ false → Stays w (closed w)
-    unfolding measure pick
+    unfolding measure
     closed-stays l = record { most = rw l (omega arith); lies = λ m y. unlisted w _ refl }
 
     passed-sinks : (h : Attribute) → w.list.is ≡ false → Given s w.raw h → Sinks w (passed w h)
-    unfolding measure pick
+    unfolding measure
     passed-sinks h l g = record { less = rw l (let x = g.least in let z = g.most in omega arith); lies = λ m y. unlisted w _ refl }
 
     list-fair : (h : Attribute) → w.list.is ≡ false → Given s w.raw h → (a : Answer Span) → list_in s n h ≡ a → Fair w (list_turn w h a)
-    unfolding list_turn measure pick
+    unfolding list_turn measure
     list-fair h l g ends e = stays (passed-sinks h l g)
     list-fair h l g (refuses r) e = stays (passed-sinks h l g)
     list-fair h l g (gives p) e =
@@ -119,10 +122,10 @@ module _ (s : List ℕ) where
     raw-fair l (refuses r) e = closed-stays l
     raw-fair l (gives h) e =
         let g = of-step s n w.raw h e in
-        both (Fair w) _ _ _ (list-fair h l g (list_in s n h) refl) (passed-sinks h l g)
+        both (Fair w) (eqb h.ty 0x20) _ _ (list-fair h l g (list_in s n h) refl) (passed-sinks h l g)
 
     by-list : (t : Bool) → w.list.is ≡ t → Fair w (pick t (entry_turn s n look w) (raw_turn s n w))
-    unfolding pick entry_turn raw_turn
+    unfolding entry_turn raw_turn
     by-list true l = entry-fair l _ refl
     by-list false l = raw-fair l _ refl
 

@@ -144,7 +144,7 @@ module _ (s : List ℕ) (n : RecordNumber) (look : RecordNumber → Option (List
 
 -- where the list lies inside a record of at most 4,096 bytes, the measure is small
 pub measure-small : (s : List ℕ) (w : State) → length s ≤ 4096 → Lies (length s) w.list → measure s w ≤ 12289
-unfolding measure pick
+unfolding measure
 measure-small s w m l = by-list w.list.is refl
   where
     by-list : (t : Bool) → w.list.is ≡ t → 2 * (length s - w.raw) + pick t (suc (w.list.to - w.list.from)) 0 ≤ 12289

@@ -2,7 +2,9 @@
 use Prim.Native.Nat.{ℕ}
 use mathlib.Core.List.{List}
 use mathlib.Core.Option.{Option}
+use lib.Dec.{eqb}
 use lib.ListN.{length}
+use Rattle.fields.specs.Known.{known_type}
 use Rattle.fields.specs.Answer.{Answer, gives, ends, refuses}
 use Rattle.fields.specs.declared.RecordNumber.{RecordNumber}
 use Rattle.fields.proofs.Cases.{both}
@@ -12,6 +14,7 @@ use Rattle.raw.specs.declared.Attribute.{Attribute}
 use Rattle.values.specs.declared.Span.{Span}
 use Rattle.list.specs.declared.Entry.{Entry}
 use Rattle.turns.specs.State.{no_list, Lies}
+use Rattle.turns.specs.Key.{agrees}
 use Rattle.turns.specs.Turn.{Small, passes, answers, found_turn, sought_turn, looked_turn, given_turn, entry_after, entry_turn, list_turn, raw_after, raw_turn}
 use Rattle.items.specs.Items.{small_step}
 use Rattle.turns.specs.declared.State.{State}
@@ -43,7 +46,7 @@ module _ (s : List ℕ) where
     unfolding entry_after given_turn
     entry-rested part ends = tt
     entry-rested part (refuses r) = tt
-    entry-rested part (gives e) = both (Rested w) _ _ _ (both (Rested w) _ _ _ tt (both (Rested w) _ _ _ tt (looked-rested part e _))) tt
+    entry-rested part (gives e) = both (Rested w) (known_type e.ty) _ _ (both (Rested w) (eqb e.file.0 n.0) _ _ tt (both (Rested w) (agrees w.key e part) _ _ tt (looked-rested part e _))) tt
 
     list-rested : (h : Attribute) (a : Answer Span) → Rested w (list_turn w h a)
     unfolding list_turn
@@ -55,7 +58,7 @@ module _ (s : List ℕ) where
     unfolding raw_after
     raw-rested ends = tt
     raw-rested (refuses r) = tt
-    raw-rested (gives h) = both (Rested w) _ _ _ (list-rested h (list_in s n h)) (λ y. no-list-lies)
+    raw-rested (gives h) = both (Rested w) (eqb h.ty 0x20) _ _ (list-rested h (list_in s n h)) (λ y. no-list-lies)
 
     pub rested : Rested w (small_step s n look w)
     unfolding small_step entry_turn raw_turn
