@@ -1,2 +1,2 @@
--- How a part's proof goes from stage to stage.
+-- What a search finds lies inside the record that it searched.
 pub mod Stages

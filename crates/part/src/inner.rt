@@ -29,7 +29,9 @@ fn no_part(n: u8, number: RecordNumber, place: usize) -> PartRead
     })
 }
 
-// Whether an entry goes on with the stream of a key. The part that begins at the entry is there for keys that hold a name.
+// Whether an entry goes on with the stream of a key.
+// The part that begins at the entry is there for keys that hold a name.
+#[tactic(auto, unfolding(crate::specs::Join::judge_part))]
 pub fn judge_part(key: Key, e: Entry, part: &[u8], number: RecordNumber, place: usize) -> Joined
     ensures { told_joined result ≡ judge_part key e part.now number place }
 {
@@ -50,36 +52,26 @@ pub fn judge_part(key: Key, e: Entry, part: &[u8], number: RecordNumber, place: 
 }
 
 // The part of a non-resident attribute, behind 7: 12.
+#[tactic(auto, unfolding(crate::specs::Part::part_after, values::specs::Value::span_of))]
 fn part_after(e: Entry, h: Attribute, f: NonResidentHeader) -> PartRead
     requires { h.offset + h.length ≤ 4096 }
     ensures { told_read result ≡ part_after e h (non_resident f) }
 {
-    let file = e.file;
-    let listed = e.lowest;
-    let lowest = f.lowest;
-    let v = values::inner::runs_span(file, h, f);
-    match v {
+    match values::inner::runs_span(e.file, h, f) {
         Valued::Refused(r) => PartRead::Refused(r),
-        Valued::Resident(p) => PartRead::Given(Part {
-            file,
+        Valued::Resident(p) | Valued::Runs(p, _) => PartRead::Given(Part {
+            file: e.file,
             offset: h.offset,
-            lowest,
+            lowest: f.lowest,
             runs: p,
             size: f.size,
-            listed,
-        }),
-        Valued::Runs(p, _) => PartRead::Given(Part {
-            file,
-            offset: h.offset,
-            lowest,
-            runs: p,
-            size: f.size,
-            listed,
+            listed: e.lowest,
         }),
     }
 }
 
 // The part of an attribute that was found: 19, then 7, then 12.
+#[tactic(auto, unfolding(crate::specs::Part::part_in, crate::specs::Part::part_after))]
 fn part_in(t: &[u8], e: Entry, h: Attribute) -> PartRead
     requires { Inside t.now h }
     ensures { told_read result ≡ part_in t.now e h }
@@ -87,8 +79,7 @@ fn part_in(t: &[u8], e: Entry, h: Attribute) -> PartRead
     if h.resident {
         return no_part(19, e.file, h.offset);
     }
-    let f = values::inner::full_of(t, e.file, h);
-    match f {
+    match values::inner::full_of(t, e.file, h) {
         FullHeader::Refused(r) => PartRead::Refused(r),
         FullHeader::Resident(_) => no_part(19, e.file, h.offset),
         FullHeader::NonResident(f) => part_after(e, h, f),
@@ -96,27 +87,25 @@ fn part_in(t: &[u8], e: Entry, h: Attribute) -> PartRead
 }
 
 // The search in a record that was looked up, and the part where it finds the attribute.
+#[tactic(auto, using(crate::proofs::Stages::found_inside, turns::proofs::Turns::few), unfolding(crate::specs::Part::part_found))]
 fn part_found(t: &[u8], number: RecordNumber, e: Entry, place: usize) -> PartFound
     requires { length t.now ≤ 4096 }
     ensures result_value { told_part result ≡ part_found t.now e (find_of t.now e.file e.ty e.instance (refusal 18 number place)) }
     ensures reads_bound { result.reads ≤ 256 }
 {
     let f = raw::inner::find(t, e.file, e.ty, e.instance, number, place);
-    let reads = f.reads;
-    let a = f.answer;
-    match a {
-        Checked::Refused(r) => {
-            let answer = PartRead::Refused(r);
-            PartFound { answer, reads }
-        }
-        Checked::Given(h) => {
-            let answer = part_in(t, e, h);
-            PartFound { answer, reads }
-        }
+    let answer = match f.answer {
+        Checked::Refused(r) => PartRead::Refused(r),
+        Checked::Given(h) => part_in(t, e, h),
+    };
+    PartFound {
+        answer,
+        reads: f.reads,
     }
 }
 
 // The part that an entry leads to: 17, 2, 3 to 6, 18, 19, 7, 12.
+#[tactic(auto, using(turns::proofs::Turns::placed_small), unfolding(crate::specs::Part::part_of, crate::specs::Part::part_looked))]
 pub fn part_of<'a>(
     base: &'a [u8],
     number: RecordNumber,
@@ -131,14 +120,15 @@ pub fn part_of<'a>(
 {
     let p = lookup::inner::lookup(base, number, t, h, e.file, place);
     match p {
-        Placed::Refused(r) => {
-            let answer = PartRead::Refused(r);
-            PartFound { answer, reads: 0 }
-        }
+        Placed::Refused(r) => PartFound {
+            answer: PartRead::Refused(r),
+            reads: 0,
+        },
         Placed::At(q) => part_found(lookup::inner::part(base, t, h, q), number, e, place),
     }
 }
 
+#[tactic(auto, unfolding(crate::specs::Join::key_for))]
 pub fn key_for(key: Key, e: Entry, part: &[u8]) -> Key
     ensures { result ≡ key_for key e part.now }
 {
