@@ -1,19 +1,22 @@
 -- Pieces of text one behind another are one piece, and a text is found again between its two ends.
-use Prim.Native.Nat.{ℕ, ◌+◌, ◌*◌, ◌-◌, ◌<◌, ◌≤◌}
-use native.Mathlib.Numerals.{add-one}
-use native.Mathlib.Omega.{arith}
-use mathlib.Core.Path.{◌≡◌, refl, sym, ◌∙◌, ap}
-use mathlib.Core.List.{List, [], ◌∷◌, ◌++◌, append_assoc, append-nil}
-use lib.ListN.{length, take, drop, get_or, set, length-append}
-use lib.Seq.{take-suc, take_all, take-paste, drop-drop, length-take-le, paste, paste-suc}
+use Rattle.std.proofs.Common.{◌≡◌, ℕ, ◌+◌, ◌*◌, ◌-◌, ◌/◌, ◌%◌, ◌^◌, ◌<◌, ◌≤◌, List, [], ◌∷◌, ◌++◌, length, take, drop, get_or, arith, refl, sym, ap, ◌∙◌, append_assoc, append-nil, add-one, length-append, length-drop, take-suc, drop-drop, length-take-le}
+use Rattle.std.proofs.Math.Seq.{take-append_seam, drop-append_seam}
 use Rattle.text.specs.Decimal.{decimal, numbers}
 use Rattle.text.specs.Put.{Put}
+use Rattle.text.proofs.Digits.{first_digit, next_digit}
 
-pub copied : (d : List ℕ) (n : ℕ) (s : List ℕ) (i : ℕ) → i ≡ length s → n ≤ length d → take (n + i) (paste d n s i) ≡ take n d ++ s
-copied d n s i e h = let l : length s ≤ i = omega arith in take-paste d n s i h (omega arith) ∙ ap (λ (t : List ℕ). take n d ++ t) (take_all i s l)
-
-pub copy_more : (d : List ℕ) (n : ℕ) (s : List ℕ) (i : ℕ) → n + i < length d → i < length s → set (paste d n s i) (n + i) (get_or s i 0) ≡ paste d n s (i + 1)
-copy_more d n s i h g = rw add-one (paste-suc d n s i 0 h g)
+-- t written over what stood at a place, up to `end`
+pub written : (d t rest : List ℕ) (at end : ℕ) → at + length t ≡ end → end ≤ length d → rest ≡ drop end d → Put d at (take at d ++ (t ++ rest)) end t (length t)
+written d t rest at end e h r =
+    let k : end ≡ length (take at d ++ t) = omega (arith, length-append (take at d) t, length-take-le at d (omega arith)) in
+    let a : take at d ++ (t ++ rest) ≡ (take at d ++ t) ++ rest = sym (append_assoc (take at d) t rest) in
+    record {
+      is = rw (a, k) (take-append_seam (take at d ++ t) rest);
+      long = rw a (omega (arith, length-append (take at d ++ t) rest, ap length r, length-drop end d));
+      least = omega arith;
+      most = omega arith;
+      tail = rw (a, ← r, k) (drop-append_seam (take at d ++ t) rest);
+    }
 
 -- what stands behind a later place is as it was, too
 pub further : (d e : List ℕ) (k end : ℕ) → k ≤ end → drop k e ≡ drop k d → drop end e ≡ drop end d
@@ -34,6 +37,13 @@ both {d} {e} {t = t} {u = u} {at} {k} {end} p q = record {
 -- the same, said of another name of the text and of a wider bound
 pub said : {d e t u : List ℕ} {at end m n : ℕ} → Put d at e end t m → t ≡ u → m ≤ n → Put d at e end u n
 said {d} {at = at} p e h = record { is = p.is ∙ ap (λ (x : List ℕ). take at d ++ x) e; long = p.long; least = p.least; most = omega (arith, p.most); tail = p.tail }
+
+-- a number of one digit; and a digit more behind the others
+pub digit_one : {d e : List ℕ} {at end b m n : ℕ} → n < 10 → b ≡ 48 + n → 1 ≤ m → Put d at e end (b ∷ []) 1 → Put d at e end (decimal n) m
+digit_one {n = n} h e l p = said p (rw (first_digit n h, e)) l
+
+pub digit_more : {d e f : List ℕ} {at k end b m n : ℕ} → 10 ≤ n → n < 2 ^ 64 → b ≡ 48 + n % 10 → Put d at e k (decimal (n / 10)) m → Put e k f end (b ∷ []) 1 → Put d at f end (decimal n) (m + 1)
+digit_more {n = n} g h e p q = said (both p q) (rw (next_digit n g h, e)) (omega arith)
 
 numbers-append : (a b : List ℕ) → numbers (a ++ b) ≡ numbers a ++ numbers b
 unfolding numbers
@@ -58,9 +68,6 @@ no_number d at s = record { is = sym (append-nil (take at d)); long = refl; leas
 pub one_number : {d e f g : List ℕ} {at k m end : ℕ} (s : List ℕ) (i : ℕ) → i < length s → Put d at e k (numbers (take i s)) (21 * i) → Put e k f m (32 ∷ []) 1
     → Put f m g end (decimal (get_or s i 0)) 20 → Put d at g end (numbers (take (i + 1) s)) (21 * (i + 1))
 one_number s i h p q n = said (both p (both q n)) (number_more s i h) (omega arith)
-
-pub all-numbers : {d e : List ℕ} {at end : ℕ} (s : List ℕ) (i : ℕ) → i ≡ length s → Put d at e end (numbers (take i s)) (21 * i) → Put d at e end (numbers s) (21 * length s)
-all-numbers s i e p = said p (ap numbers (take_all i s (omega arith))) (omega arith)
 
 -- a put ends as far behind as its text is long
 pub put-length : {d e t : List ℕ} {at end n : ℕ} → Put d at e end t n → at ≤ length d → end ≤ length d → end ≡ at + length t

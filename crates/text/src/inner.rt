@@ -17,12 +17,9 @@ fn put_text(out: &mut [u8], at: usize, s: &[u8]) -> usize
     requires { at + length s.now ≤ length out.old }
     ensures { Put out.old at out.new result s.now (length s.now) }
 {
-    let mut i: usize = 0;
-    while i < s.len() {
-        out[at + i] = s[i];
-        i += 1;
-    }
-    at + i
+    let end = at + s.len();
+    out[at..end].copy_from_slice(s);
+    end
 }
 
 fn digit(n: u64) -> u8
@@ -65,9 +62,8 @@ fn put_number(out: &mut [u8], at: usize, n: u64) -> usize
     if n < 10000 {
         return put_four(out, at, n);
     }
-    let mut digits = [0u8; 20];
-    let k = io::decimal(n, &mut digits);
-    put_text(out, at, &digits[..k])
+    let mut digits = itoa::Buffer::new();
+    put_text(out, at, digits.format(n).as_bytes())
 }
 
 // Each number in decimal, behind a space.
@@ -75,15 +71,12 @@ pub fn put_numbers(out: &mut [u8], at: usize, s: &[u64]) -> usize
     requires { at + 21 * length s.now ≤ length out.old }
     ensures { Put out.old at out.new result (numbers s.now) (21 * length s.now) }
 {
-    let mut r = at;
-    let mut i: usize = 0;
-    while i < s.len() {
-        let n = s[i];
-        r = put_byte(out, r, b' ');
-        r = put_number(out, r, n);
-        i += 1;
+    let mut end = at;
+    for n in s {
+        end = put_byte(out, end, b' ');
+        end = put_number(out, end, *n);
     }
-    r
+    end
 }
 
 // A word, and numbers behind it.
