@@ -3,7 +3,8 @@ use Prim.Native.Nat.{ℕ, zero, suc, ◌+◌, ◌<◌, ◌≤◌}
 use mathlib.Core.Path.{◌≡◌, refl, sym, ap, ◌∙◌, subst}
 use mathlib.Core.List.{List}
 use native.Mathlib.Omega.{arith}
-use lib.ListN.{length}
+use native.Mathlib.Numerals.{add-one}
+use Rattle.fields.specs.Header.{first_attribute}
 use denote.Ref.{Bor}
 use Rattle.fields.specs.Answer.{Answer, gives, ends, refuses}
 use Rattle.fields.specs.declared.RecordNumber.{RecordNumber}
@@ -22,13 +23,21 @@ use Rattle.reader.proofs.Trails.{first-place, step-there, place-on}
 
 module _ (s : List ℕ) (n : RecordNumber) where
   -- the k-th answer is the step at the k-th place, and the next place is the one after it
-  answer_at : (k : ℕ) → answer_of s n k ≡ step_of s n (place_of s n k)
+  pub answer_at : (k : ℕ) → answer_of s n k ≡ step_of s n (place_of s n k)
   unfolding answer_of place_of
   answer_at k = step-there s n k _
 
   placed-after : (k : ℕ) → place_of s n (suc k) ≡ place_after (place_of s n k) (answer_of s n k)
   unfolding answer_of place_of
   placed-after k = place-on s n k _ ∙ ap (place_after _) (sym (step-there s n k _))
+
+  pub place_first : place_of s n 0 ≡ first_attribute s
+  unfolding place_of
+  place_first = first-place s n _
+
+  pub place_next : (k : ℕ) → place_of s n (k + 1) ≡ place_after (place_of s n k) (step_of s n (place_of s n k))
+  unfolding place_of
+  place_next k = rw add-one (place-on s n k _)
 
   -- an attribute of the walk stands at its place and ends inside the record, where the next place is
   pub record Stands (k : ℕ) (h : Attribute) : Type 0 where
@@ -113,3 +122,5 @@ module _ (s : Bor (List ℕ)) (n : RecordNumber) (q : ℕ → Reader) (x : ℕ �
   -- THE THEOREM: the k-th take answers the k-th answer of the raw walk
   pub answers : (k : ℕ) → k < m → told_step (x k) ≡ answer_of s.now n k
   answers k l = (next k l).answer ∙ step_same k (kept k (omega arith))
+
+pub ruleset places = (place_first, place_next, answer_at)

@@ -5,17 +5,14 @@ use mathlib.Core.List.{List, [], ◌∷◌}
 use native.Mathlib.Nat.{not-suc-le-zero}
 use native.Mathlib.Omega.{arith}
 use lib.ListN.{length}
-use denote.Ref.{Bor}
 use Rattle.fields.specs.Answer.{Answer, gives, ends, refuses}
 use Rattle.fields.specs.declared.RecordNumber.{RecordNumber}
 use Rattle.fields.specs.declared.Refusal.{Refusal}
-use Rattle.raw.specs.Step.{told_step, step_of}
+use Rattle.raw.specs.Step.{step_of}
 use Rattle.raw.specs.declared.Attribute.{Attribute}
-use Rattle.raw.specs.declared.RawStep.{RawStep}
 use Rattle.raw.proofs.Given.{step_given}
-use Rattle.reader.specs.Take.{place_after, Starts, Takes}
-use Rattle.reader.specs.Trail.{Trail, trail_after, trail_run, trail_from, nth, past, answer_from, place_from, answer_of}
-use Rattle.reader.specs.declared.Reader.{Reader}
+use Rattle.reader.specs.Take.{place_after}
+use Rattle.reader.specs.Trail.{Trail, trail_after, trail_run, trail_from, nth, past, answer_from, place_from}
 
 module _ (s : List ℕ) (n : RecordNumber) where
   turned : (f g at : ℕ) → ((p : ℕ) → length s - p < f → length s - p < g → trail_run s n f p ≡ trail_run s n g p)
@@ -123,21 +120,3 @@ module _ (s : List ℕ) (n : RecordNumber) where
   pub place-on : (k at : ℕ) → place_from s n at (suc k) ≡ place_after (place_from s n at k) (step_of s n (place_from s n at k))
   place-on zero at = next_place at 0 ∙ first-place (on at) ∙ ap on (sym (first-place at))
   place-on (suc k) at = next_place at (suc k) ∙ place-on k (on at) ∙ ap on (sym (next_place at k))
-
--- a reader that was started answers from the first attribute on
-pub started : (s : Bor (List ℕ)) (n : RecordNumber) (r : Reader) → Starts s n r → (k : ℕ) → answer_from r.bytes.now r.number r.at k ≡ answer_of s.now n k
-unfolding answer_of
-started s n r e k =
-    ap (λ (b : Bor (List ℕ)). answer_from b.now r.number r.at k) e.bytes ∙ ap (λ (m : RecordNumber). answer_from s.now m r.at k) e.number
-    ∙ ap (λ (p : ℕ). answer_from s.now n p k) e.place
-
--- after a take, a reader gives one answer less before the same one
-pub taken_next : (q r : Reader) (x : RawStep) → Takes q x r → (j k : ℕ) → k ≡ suc j → answer_from r.bytes.now r.number r.at j ≡ answer_from q.bytes.now q.number q.at k
-taken_next q r x e j k l =
-    ap (λ (b : Bor (List ℕ)). answer_from b.now r.number r.at j) e.bytes ∙ ap (λ (m : RecordNumber). answer_from q.bytes.now m r.at j) e.number
-    ∙ ap (λ (p : ℕ). answer_from q.bytes.now q.number p j) e.place ∙ sym (next-is q.bytes.now q.number q.at j)
-    ∙ ap (answer_from q.bytes.now q.number q.at) (sym l)
-
--- and where none is left before it, a take answers it
-pub taken-now : (q r : Reader) (x : RawStep) → Takes q x r → (k : ℕ) → k ≡ 0 → told_step x ≡ answer_from q.bytes.now q.number q.at k
-taken-now q r x e k l = e.answer ∙ sym (first-is q.bytes.now q.number q.at) ∙ ap (answer_from q.bytes.now q.number q.at) (sym l)

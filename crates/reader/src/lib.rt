@@ -25,6 +25,7 @@ pub struct Moved {
 }
 
 // The raw step at a place. An attribute moves the place past it, the end and a refusal leave it.
+#[tactic(auto, using(raw::proofs::Given::step_given), unfolding(crate::specs::Take::place_after))]
 pub fn step(s: &[u8], number: RecordNumber, at: usize) -> Moved
     ensures { Moves s.now number at result }
 {
@@ -61,14 +62,13 @@ pub fn take<'s, 'a>(r: &'s mut Reader<'a>) -> RawStep
 }
 
 // What a reader answers after so many takes: for callers without a reader of their own.
+#[tactic(auto, using(crate::proofs::Takes::places))]
 pub fn taken(s: &[u8], number: RecordNumber, turns: usize) -> RawStep
     ensures { told_step result ≡ answer_of s.now number turns }
 {
     let mut r = start(s, number);
-    let mut left = turns;
-    while left > 0 {
+    for _ in 0..turns {
         take(&mut r);
-        left -= 1;
     }
     take(&mut r)
 }
