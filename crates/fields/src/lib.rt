@@ -56,16 +56,7 @@ pub enum HeaderRead {
 pub fn known_type(ty: u32) -> bool
     ensures { result ≡ known_type ty }
 {
-    if ty == 0xFFFF_FFFF {
-        return true;
-    }
-    if ty < 0x10 {
-        return false;
-    }
-    if 0x100 < ty {
-        return false;
-    }
-    ty % 0x10 == 0
+    ty == 0xFFFF_FFFF || 0x10 <= ty && ty <= 0x100 && ty % 0x10 == 0
 }
 
 // An attribute's flags, kept in the three bits that have a meaning.
@@ -81,13 +72,7 @@ pub fn attribute_flags(flags: u16) -> u16
 pub fn good_length(m: usize) -> bool
     ensures { result ≡ good_length m }
 {
-    if m < 64 {
-        return false;
-    }
-    if 4096 < m {
-        return false;
-    }
-    m % 8 == 0
+    64 <= m && m <= 4096 && m % 8 == 0
 }
 
 // Whether the first four bytes are FILE.
@@ -95,10 +80,7 @@ pub fn good_length(m: usize) -> bool
 pub fn is_file(s: &[u8]) -> bool
     ensures { result ≡ is_file s.now }
 {
-    if s.len() < 4 {
-        return false;
-    }
-    check::same(&s[0..4], b"FILE")
+    s.starts_with(b"FILE")
 }
 
 // Check 2, of the base record and of a looked-up one alike.
