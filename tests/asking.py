@@ -1,7 +1,7 @@
 """Questions to a program that answers for the library, and the comparison of its answers with the expected ones.
 
-`rt check` and `rt ci` leave each proved program at target/bin/NAME; `rt ci` removes target/ first, so the program there
-is the one that this very run proved.
+`rt ci` leaves each proved program at crates/NAME/out/NAME and sets aside what was there before, so the program there is the
+one that this very run proved. `rt run` in crates/NAME leaves it there too.
 """
 import os
 import platform
@@ -20,9 +20,9 @@ LAST = 2 ** 64 - 1
 
 def command(name):
     """How a built program is run. Programs are for x86-64; on another machine the toolchain has an emulator."""
-    path = os.path.join(ROOT, "target", "bin", name)
+    path = os.path.join(ROOT, "crates", name, "out", name)
     if not os.path.exists(path):
-        sys.exit("no target/bin/%s: run `rt check %s` first" % (name, name))
+        sys.exit("no crates/%s/out/%s: run `rt ci`, or `rt run` in crates/%s, first" % (name, name, name))
     if platform.machine() == "x86_64":
         return [path]
     # `rt doc` prints a file of the toolchain's own folder: KIT/docs/START-HERE.md

@@ -4,7 +4,7 @@
 
 On every table of tests/cases and tests/volumes, against the listing kept beside it; on random and damaged tables, against the
 second reading (listing_reading.py), one run each; on inputs that are too long, come in pieces or cannot be read, and on
-outputs that cannot be written. --program names another program than target/bin/listing.
+outputs that cannot be written. --program names another program than crates/listing/out/listing.
 """
 import argparse
 import collections

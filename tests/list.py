@@ -182,7 +182,7 @@ def options():
     assert os.path.exists(os.path.join(ROOT, "docs", "REFERENCE.md"))
     # help is given where a file is named too, and nothing is listed
     same(run(case("whole"), "--help"), 0, out, "")
-    same(run("--build"), 0, b"", "list: target/bin/listing is built already\n")
+    same(run("--build"), 0, b"", "list: crates/listing/out/listing is built already\n")
 
 
 def outputs():
@@ -222,12 +222,13 @@ def tree_with(room, name, shown=None, program=None):
     """A copy of ./list in a folder of its own, with a program that shows this whatever it is given, or none."""
     tree = os.path.join(room, name)
     os.makedirs(tree)
+    os.makedirs(os.path.join(tree, "crates", "listing"))
     shutil.copy(LIST, tree)
     assert os.stat(os.path.join(tree, "list")).st_mode & stat.S_IXUSR
     if shown is not None:
         program = "cat >/dev/null\nprintf '%s'\n" % shown.replace("\n", "\\n")
     if program is not None:
-        script(os.path.join(tree, "target", "bin", "listing"), program)
+        script(os.path.join(tree, "crates", "listing", "out", "listing"), program)
     return tree
 
 
@@ -270,7 +271,7 @@ def endings(room):
     same(run("whole.tab", at=os.path.join(tree, "list"), cwd=CASES), 0, b"a\0b\xff\r\nend reads 1\n", "")
     # no variable of the user's names another program
     tree = tree_with(room, "other", shown="end reads 7\n")
-    names = {name: os.path.join(tree, "target", "bin", "listing") for name in ("program", "PROGRAM", "LISTING", "listing", "LIST_PROGRAM", "worst")}
+    names = {name: os.path.join(tree, "crates", "listing", "out", "listing") for name in ("program", "PROGRAM", "LISTING", "listing", "LIST_PROGRAM", "worst")}
     names.update({name: tree for name in ("root", "here", "ROOT", "OLDPWD", "PWD", "CDPATH")})
     same(run(case("whole"), env={**os.environ, **names}), 0, listing("whole"), "")
 
@@ -282,18 +283,18 @@ def path_with(room, name, rt):
 
 
 def building(room):
-    """Builds where nothing is built, by rt check listing, says so, and lists then. No rt is asked where it is built."""
-    first = 'list: target/bin/listing is not built yet; "rt check listing" proves and builds it, which takes some minutes\n'
+    """Builds where nothing is built, by rt run in crates/listing, says so, and lists then. No rt is asked where it is built."""
+    first = 'list: crates/listing/out/listing is not built yet; "rt run" in crates/listing proves and builds it, which takes some minutes\n'
     good = (
-        'cat\necho "rt $* in $PWD"\nmkdir -p target/bin\n'
-        'printf "#!/bin/sh\\ncat >/dev/null\\necho end reads 5\\n" >target/bin/listing\nchmod +x target/bin/listing\n')
+        'cat\necho table refused 21\necho "rt $* in $PWD" >&2\nmkdir -p out\n'
+        'printf "#!/bin/sh\\ncat >/dev/null\\necho end reads 5\\n" >out/listing\nchmod +x out/listing\n')
     never = path_with(room, "never", "echo rt was asked >&2\nexit 1\n")
     env = path_with(room, "good", good)
 
     def told(found, tree, status, out):
         said = found[2].split("\n")
         same((found[0], found[1], said[0] + "\n", said[1], said[2][:14], said[2][-8:], said[3:]),
-             status, out, first, "rt check listing in %s" % tree, "list: built in", " seconds", [""])
+             status, out, first, "rt run in %s" % os.path.join(tree, "crates", "listing"), "list: built in", " seconds", [""])
 
     # the table on standard input is the program's, not rt's
     tree = tree_with(room, "new")
@@ -301,15 +302,15 @@ def building(room):
     same(run("whole.tab", at=os.path.join(tree, "list"), env=never, cwd=CASES), 0, b"end reads 5\n", "")
     tree = tree_with(room, "ahead")
     told(run("--build", at=os.path.join(tree, "list"), env=env, cwd=CASES), tree, 0, b"")
-    same(run("--build", at=os.path.join(tree, "list"), env=never), 0, b"", "list: target/bin/listing is built already\n")
+    same(run("--build", at=os.path.join(tree, "list"), env=never), 0, b"", "list: crates/listing/out/listing is built already\n")
     # the time is that of the build
     tree = tree_with(room, "slow")
     said = run("--build", at=os.path.join(tree, "list"), env=path_with(room, "slowly", "sleep 2\n" + good))[2]
     took = re.fullmatch("list: built in ([0-9]+) seconds", said.split("\n")[2])
     assert took and 2 <= int(took[1]) <= LONG, said
     # a build that fails, that leaves nothing, and none at all
-    for name, rt, said in (("fails", "echo no >&2\nexit 1\n", "no\nlist: rt check listing failed\n"),
-                           ("empty", "exit 0\n", "list: rt check listing left no target/bin/listing\n")):
+    for name, rt, said in (("fails", "echo no >&2\nexit 1\n", "no\nlist: rt run in crates/listing failed\n"),
+                           ("empty", "exit 0\n", "list: rt run left no crates/listing/out/listing\n")):
         tree = tree_with(room, name + "-tree")
         for words in (["whole.tab"], ["--build"]):
             same(run(*words, at=os.path.join(tree, "list"), env=path_with(room, name, rt), cwd=CASES), 69, b"", first + said)
@@ -319,9 +320,9 @@ def building(room):
     for tool in ("sh", "dirname", "readlink", "cat", "date", "uname", "mktemp", "rm", "tail", "wc", "grep"):
         os.symlink(shutil.which(tool), os.path.join(tools, tool))
     same(run(case("whole"), at=os.path.join(tree, "list"), env={"PATH": tools}), 69, b"",
-         "list: target/bin/listing is not built, and there is no rt to build it with\n")
+         "list: crates/listing/out/listing is not built, and there is no rt to build it with\n")
     # and with it built, these tools are all that ./list needs
-    script(os.path.join(tree, "target", "bin", "listing"), "cat\necho end reads 6\n")
+    script(os.path.join(tree, "crates", "listing", "out", "listing"), "cat\necho end reads 6\n")
     same(run("-", at=os.path.join(tree, "list"), env={"PATH": tools}, input=b"x\n"), 0, b"x\nend reads 6\n", "")
     # without readlink, from the folder above, where CDPATH knows another folder of that name
     os.remove(os.path.join(tools, "readlink"))
