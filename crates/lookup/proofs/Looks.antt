@@ -12,22 +12,13 @@ use Rattle.fields.specs.Open.{is_file, check_file}
 use Rattle.fields.specs.declared.RecordNumber.{RecordNumber}
 use Rattle.fields.specs.declared.Refusal.{Refusal}
 use Rattle.fields.proofs.Cases.{eq-y, eq-n, not-second, either}
-use Rattle.fields.proofs.Answers.{onward, halted, refused-given, the-given, back}
-use Rattle.table.specs.Check.{open_table}
-use Rattle.table.specs.Held.{record_of}
-use Rattle.lookup.specs.Lookup.{sought_in, filed, judged, lookup_in, lookup_of, found, viewed}
+use Rattle.fields.proofs.Answers.{refused-given, the-given, back}
+use Rattle.table.specs.Check.{table_of, open_table}
+use Rattle.table.specs.Held.{record_at, record_of, IsRow}
+use Rattle.lookup.specs.Lookup.{sought_in, filed, judged, lookup_in, lookup_of, viewed}
 use Rattle.table.specs.declared.Numbers.{Numbers}
 use Rattle.table.proofs.Sound.{Sound, sound, opened}
-use Rattle.table.proofs.Holds.{the-some, record-sized}
-
--- check 2 of the record s, which is b
-pub not-filed : (w : RecordNumber) (s b : List ℕ) {r : Refusal} → refuses r ≡ check_file s w → s ≡ b → refuses r ≡ filed w b
-unfolding filed
-not-filed w s b e q = halted _ (e ∙ ap (λ (x : List ℕ). check_file x w) q)
-
-pub is-filed : (w : RecordNumber) (s b : List ℕ) → gives tt ≡ check_file s w → s ≡ b → gives b ≡ filed w b
-unfolding filed
-is-filed w s b e q = onward _ (e ∙ ap (λ (x : List ℕ). check_file x w) q) refl
+use Rattle.table.proofs.Holds.{the-some, record_of_row, record_of_none, record-sized}
 
 -- a is the answer of check 2, in the record that the lookup finds
 module _ (base : List ℕ) (n : RecordNumber) (look : RecordNumber → Option (List ℕ)) (w : RecordNumber) (at : ℕ) {a : Answer (List ℕ)} where
@@ -35,35 +26,34 @@ module _ (base : List ℕ) (n : RecordNumber) (look : RecordNumber → Option (L
   unfolding lookup_in
   from o e h = h ∙ ap (judged w (refusal 17 n at)) e
 
-  pub from-base : w.0 ≡ n.0 → a ≡ filed w base → a ≡ lookup_in base n look w at
+  pub from_base : w.0 ≡ n.0 → a ≡ filed w base → a ≡ lookup_in base n look w at
   unfolding sought_in judged
-  from-base e h = from (some base) (eq-y _ _ _ _ e refl) h
+  from_base e h = from (some base) (eq-y _ _ _ _ e refl) h
 
-  pub from-table : (w.0 ≡ n.0 → ⊥) → (b : List ℕ) → look w ≡ some b → a ≡ filed w b → a ≡ lookup_in base n look w at
+  pub from_table : (w.0 ≡ n.0 → ⊥) → (b : List ℕ) → look w ≡ some b → a ≡ filed w b → a ≡ lookup_in base n look w at
   unfolding sought_in judged
-  from-table e b l h = from (some b) (eq-n _ _ _ _ e (sym l)) h
+  from_table e b l h = from (some b) (eq-n _ _ _ _ e (sym l)) h
 
-  pub from-none : (w.0 ≡ n.0 → ⊥) → look w ≡ none → a ≡ refuses (refusal 17 n at) → a ≡ lookup_in base n look w at
+  pub from_none : (w.0 ≡ n.0 → ⊥) → look w ≡ none → a ≡ refuses (refusal 17 n at) → a ≡ lookup_in base n look w at
   unfolding sought_in judged
-  from-none e l h = from none (eq-n _ _ _ _ e (sym l)) h
+  from_none e l h = from none (eq-n _ _ _ _ e (sym l)) h
+
+-- a row has the number, or none has it
+module _ (base : List ℕ) (n : RecordNumber) (t : List ℕ) (h : Numbers) (w : RecordNumber) (at : ℕ) where
+  pub from_row : (i : ℕ) {a : Answer (List ℕ)} → table_of t ≡ gives h → (w.0 ≡ n.0 → ⊥) → IsRow t h w (some i)
+      → a ≡ filed w (record_at t h i) → a ≡ lookup_in base n (record_of t) w at
+  from_row i e l m k = from_table base n (record_of t) w at l _ (record_of_row (sound t h e) w i m) k
+
+  pub missed : table_of t ≡ gives h → (w.0 ≡ n.0 → ⊥) → IsRow t h w none
+      → refuses (refusal 17 n at) ≡ lookup_in base n (record_of t) w at
+  missed e l m = from_none base n (record_of t) w at l (record_of_none (sound t h e) w m) refl
+
+pub ruleset places = (from_base, from_row, missed)
 
 -- behind the opening checks
-module _ (base : List ℕ) (n : RecordNumber) (t : List ℕ) (w : RecordNumber) (at : ℕ) where
-  pub by-opening : {r : Refusal} → refuses r ≡ open_table base n t → refuses r ≡ lookup_of base n t w at
-  unfolding lookup_of
-  by-opening e = halted _ e
-
-  pub by-lookup : {h : Numbers} {a : Answer (List ℕ)} → gives h ≡ open_table base n t → a ≡ lookup_in base n (record_of t) w at → a ≡ lookup_of base n t w at
-  unfolding lookup_of
-  by-lookup e l = onward _ e l
-
-pub not_found : {r : Refusal} {a : Answer (List ℕ)} → refuses r ≡ a → refuses r ≡ found a
-unfolding found
-not_found e = halted _ e
-
-pub is_found : {s : List ℕ} {a : Answer (List ℕ)} → gives s ≡ a → gives tt ≡ found a
-unfolding found
-is_found e = onward _ e refl
+pub opened_table : (base : List ℕ) (n : RecordNumber) (t : List ℕ) (h : Numbers)
+    → open_table base n t ≡ gives h → table_of t ≡ gives h
+opened_table base n t h e = (opened base n t h e).table
 
 -- what a record that a lookup gives is: the one sought, and it passed check 2
 pub record Sought (base : List ℕ) (n : RecordNumber) (look : RecordNumber → Option (List ℕ)) (w : RecordNumber) (s : List ℕ) : Type 0 where
@@ -93,7 +83,7 @@ found-sized k base n w at s l e =
 -- so the view of a record that is found is not empty
 pub view-full : (base : List ℕ) (n : RecordNumber) (t : List ℕ) (w : RecordNumber) (at : ℕ) (s : List ℕ) → lookup_of base n t w at ≡ gives s
     → 64 ≤ length (viewed (lookup_of base n t w at))
-unfolding lookup_of viewed
+unfolding lookup_of
 view-full base n t w at s e =
     let a = back (open_table base n t) _ s e in
     let o = opened base n t a.first a.gave in
@@ -103,5 +93,4 @@ view-full base n t w at s e =
     subst (λ (x : Answer (List ℕ)). 64 ≤ length (viewed x)) (sym e) (omega arith)
 
 pub view-empty : {a : Answer (List ℕ)} {r : Refusal} → a ≡ refuses r → viewed a ≡ []
-unfolding viewed
 view-empty e = ap viewed e

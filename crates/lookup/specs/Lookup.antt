@@ -43,11 +43,11 @@ told_looked looked.Found = gives tt
 told_looked (looked.Refused r) = refuses r
 
 -- whether a record was found, without its bytes
-unfoldable pub found : Answer (List ℕ) → Answer Unit
+abbrev pub found : Answer (List ℕ) → Answer Unit
 found a = a ⟫ λ _. gives tt
 
 -- the view: the record's bytes where it is found, none where the lookup refuses
-unfoldable pub viewed : Answer (List ℕ) → List ℕ
+abbrev pub viewed : Answer (List ℕ) → List ℕ
 viewed (gives s) = s
 viewed ends = []
 viewed (refuses r) = []

@@ -10,6 +10,7 @@ use fields::{Opened, RecordNumber, Refusal, check_file};
 use table::{Numbers, Row, RowFound};
 
 // The row with a number, by halves: the numbers rise from row to row, so one look leaves out the rows before or behind it.
+#[tactic(auto, using(crate::proofs::Halves::halves))]
 pub fn row_of(t: &[u8], h: Numbers, wanted: RecordNumber) -> RowFound
     requires { table_of t.now ≡ gives h }
     ensures { IsRow t.now h wanted (told_row result) }
@@ -32,8 +33,10 @@ pub fn row_of(t: &[u8], h: Numbers, wanted: RecordNumber) -> RowFound
 }
 
 // The record of row i, a part of the table.
+#[tactic(auto, using(crate::proofs::Halves::bounds), unfolding(table::specs::Held::record_at))]
 pub fn record_at<'a>(t: &'a [u8], h: Numbers, i: usize) -> &'a [u8]
-    requires { (table_of t.now ≡ gives h) × (i < h.count) }
+    requires checked { table_of t.now ≡ gives h }
+    requires below { i < h.count }
     ensures { result.now ≡ record_at t.now h i }
 {
     let r = table::inner::row_at(t, h, i);
@@ -44,7 +47,8 @@ pub fn record_at<'a>(t: &'a [u8], h: Numbers, i: usize) -> &'a [u8]
 
 // The record at a place: the lent base record, or a part of the table.
 pub fn part<'a>(base: &'a [u8], t: &'a [u8], h: Numbers, p: Place) -> &'a [u8]
-    requires { (table_of t.now ≡ gives h) × InTable h p }
+    requires checked { table_of t.now ≡ gives h }
+    requires inside { InTable h p }
     ensures { result.now ≡ place_bytes base.now t.now h p }
 {
     match p {
@@ -54,8 +58,10 @@ pub fn part<'a>(base: &'a [u8], t: &'a [u8], h: Numbers, p: Place) -> &'a [u8]
 }
 
 // The record at a place where it passes check 2.
+#[tactic(auto, unfolding(crate::specs::Lookup::filed))]
 fn judge<'a>(base: &'a [u8], t: &'a [u8], h: Numbers, p: Place, wanted: RecordNumber) -> Placed
-    requires { (table_of t.now ≡ gives h) × InTable h p }
+    requires checked { table_of t.now ≡ gives h }
+    requires inside { InTable h p }
     ensures { Stands base.now t.now h (filed wanted (place_bytes base.now t.now h p)) result }
 {
     let s = part(base, t, h, p);
@@ -68,6 +74,7 @@ fn judge<'a>(base: &'a [u8], t: &'a [u8], h: Numbers, p: Place, wanted: RecordNu
 
 // Where the record with a number stands: 17 at the place to blame in the base record, then the record's own 2.
 // The base's number is the one lent with the record, whatever the table's base row says.
+#[tactic(auto, using(crate::proofs::Looks::places))]
 pub fn lookup<'a>(
     base: &'a [u8],
     number: RecordNumber,

@@ -31,6 +31,7 @@ pub enum Looked {
 }
 
 // The record with a number, behind 21, 1 and 2: found, or 17 at the place to blame in the base record, or the record's own 2.
+#[tactic(auto, using(crate::proofs::Looks::opened_table), unfolding(crate::specs::Lookup::lookup_of))]
 pub fn lookup<'a>(
     base: &'a [u8],
     number: RecordNumber,
@@ -54,6 +55,7 @@ pub fn lookup<'a>(
 }
 
 // The record itself, the lent base record or a part of the table; the empty slice where `lookup` refuses.
+#[tactic(auto, using(crate::proofs::Looks::opened_table), unfolding(crate::specs::Lookup::lookup_of))]
 pub fn lookup_view<'a>(
     base: &'a [u8],
     number: RecordNumber,

@@ -13,7 +13,7 @@ use lib.Dec.{eqb}
 use lib.ListN.{length, get_elem?}
 use Rattle.fields.specs.Pick.{pick}
 use Rattle.fields.specs.declared.RecordNumber.{RecordNumber}
-use Rattle.fields.proofs.Cases.{yes, eq-y, eq-n, not_first, not-second, either}
+use Rattle.fields.proofs.Cases.{yes, eq-y, eq-n, not_first, either}
 use Rattle.table.specs.Layout.{row_at}
 use Rattle.table.specs.Held.{record_at, held_at, held_from, held_of, record_in, record_of, base_row, base_of, IsRow}
 use Rattle.table.specs.declared.Numbers.{Numbers}
@@ -104,17 +104,17 @@ module _ {t : List ℕ} {h : Numbers} (s : Sound t h) (n : RecordNumber) where
   one_answer (some i) (some j) p q = ap some (one-row s i j p.0 q.0 (p.1 ∙ sym q.1))
 
   -- the table's record with a row's number is that row's
-  pub record-of-row : (i : ℕ) → IsRow t h n (some i) → record_of t n ≡ some (record_at t h i)
+  pub record_of_row : (i : ℕ) → IsRow t h n (some i) → record_of t n ≡ some (record_at t h i)
   unfolding record_of held_of
-  record-of-row i p =
+  record_of_row i p =
       subst (λ (x : Numbers). record_in (held_from t x x.count 0) n ≡ some (record_at t h i)) s.head.is
       (present-from t h n h.count 0 i
       (λ a l e. omega (arith, one-row s a i (omega arith) p.0 (e ∙ sym p.1))) p.1 (omega arith) (omega arith))
 
   -- it has none with a number that no row has
-  pub record-of-none : IsRow t h n none → record_of t n ≡ none
+  pub record_of_none : IsRow t h n none → record_of t n ≡ none
   unfolding record_of held_of
-  record-of-none p =
+  record_of_none p =
       subst (λ (x : Numbers). record_in (held_from t x x.count 0) n ≡ none) s.head.is
       (absent-from t h n h.count 0 (λ j l. p j (omega arith)))
 

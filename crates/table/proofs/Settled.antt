@@ -11,7 +11,6 @@ use Rattle.table.specs.declared.Tested.{Tested}
 use Rattle.table.specs.declared.Tested.TheVariants as tested
 use Rattle.table.specs.declared.RowFound.{RowFound}
 use Rattle.table.specs.declared.RowFound.TheVariants as row
-use Rattle.table.proofs.Sound.{Sound}
 
 abbrev tested_back : Answer Numbers → Tested
 tested_back = read_back tested.Sound (tested.Refused nothing) tested.Refused

@@ -7,20 +7,20 @@ use mathlib.Core.Logic.{⊎_elim}
 use native.Mathlib.Omega.{arith}
 use Rattle.std.proofs.lemmas.Bool.Decides.{nat_tests}
 use native.Mathlib.Nat.{not-suc-le-zero, le_of_suc-le-suc, eq-or-lt_of_le}
-use borrow.Author.Tests.{ltb-true, ltb-false, eqb-true}
+use borrow.Author.Tests.{eqb-true}
 use lib.ListN.{length, length-take, length-drop}
 use Rattle.fields.specs.Answer.{gives}
 use Rattle.fields.specs.Open.{good_length, open_of, open_in}
 use Rattle.fields.specs.declared.RecordNumber.{RecordNumber}
-use Rattle.fields.proofs.Cases.{not_first, not-second}
+use Rattle.fields.proofs.Cases.{not-second}
 use Rattle.fields.proofs.Answers.{refused-given, the-given, back}
-use Rattle.fields.proofs.Opens.{not-true, Sized, good_sized}
+use Rattle.fields.proofs.Opens.{Sized, good_sized}
 use Rattle.table.specs.Layout.{numbers_at, width, row_in, row_at}
 use Rattle.table.specs.Check.{good_numbers, head_of, least_at, good_row, rows_checked, rows_of, table_of, open_table}
 use Rattle.table.specs.Held.{record_at}
 use Rattle.table.specs.declared.Numbers.{Numbers}
 use Rattle.table.specs.declared.Row.{Row}
-use Rattle.table.proofs.Rows.{GoodAt, all-good}
+use Rattle.table.proofs.Rows.{GoodAt, all-good, none_checked, first_least, one_more, next_least, first_fault, last_row}
 
 -- the header's faults are absent
 pub record Head (t : List ℕ) (h : Numbers) : Type 0 where
@@ -73,6 +73,9 @@ pub record Sound (t : List ℕ) (h : Numbers) : Type 0 where
   pub rises : (i j : ℕ) → i < j → j < h.count → (row_at t h i).number.0 < (row_at t h j).number.0
   pub starts : (i : ℕ) → i < h.count → h.records ≤ (row_at t h i).offset
   pub stops : (i : ℕ) → i < h.count → (row_at t h i).offset + h.size ≤ length t
+
+-- what the loop over the rows goes by
+pub ruleset row_by_row = (directory_inside, row_sound, none_checked, first_least, one_more, next_least, first_fault, last_row)
 
 module _ (t : List ℕ) (h : Numbers) (all : (i : ℕ) → i < h.count → GoodAt t h i) where
   fits : (i : ℕ) → i < h.count → Fits (length t) h (least_at t h i) (row_at t h i)

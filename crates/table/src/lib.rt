@@ -138,7 +138,7 @@ fn good_row(m: usize, h: Numbers, least: u64, r: Row) -> bool
 }
 
 // The rows one after another. A row's number must be above the one before it, so `least` is that number and one more.
-#[tactic(auto, using(crate::proofs::Sound::directory_inside, crate::proofs::Sound::row_sound, crate::proofs::Rows::none_checked, crate::proofs::Rows::first_least, crate::proofs::Rows::one_more, crate::proofs::Rows::next_least, crate::proofs::Rows::first_fault, crate::proofs::Rows::last_row))]
+#[tactic(auto, using(crate::proofs::Sound::row_by_row))]
 fn check_rows(t: &[u8], h: Numbers) -> Tested
     requires { head_of t.now ≡ gives h }
     ensures { told_tested result ≡ rows_of t.now h }
