@@ -3,6 +3,7 @@ use Prim.Native.Nat.{ℕ, zero, suc, ◌+◌}
 use mathlib.Core.Path.{◌≡◌, refl, ap}
 use mathlib.Core.List.{List, [], ◌∷◌, ◌++◌, Memᴰ}
 use mathlib.Core.Option.{Option}
+use lib.Dec.{ltb}
 use Rattle.fields.specs.Answer.{Answer, gives, ends, refuses}
 use Rattle.fields.specs.declared.RecordNumber.{RecordNumber}
 use Rattle.fields.proofs.Cases.{both}
@@ -78,7 +79,7 @@ module _ (s : List ℕ) (n : RecordNumber) (look : RecordNumber → Option (List
 
   joined-led : (l : Rest) (e : Entry) → entry_of (listPart s l) n l.from ≡ gives e → (k : ℕ) (next : Cursor) (j : Answer Unit) → Led l (step_joined s n look room k next e l.from j)
   unfolding step_joined step_part
-  joined-led l e q k next (gives u) = both (Led l) _ _ _ (after-led l e q next _ _ refl) tt
+  joined-led l e q k next (gives u) = both (Led l) (ltb k room) _ _ (after-led l e q next _ _ refl) tt
   joined-led l e q k next ends = tt
   joined-led l e q k next (refuses r) = tt
 

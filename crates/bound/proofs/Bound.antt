@@ -117,7 +117,7 @@ module _ (s : List ℕ) (n : RecordNumber) (look : RecordNumber → Option (List
 
   -- with no list open there is no more left than the record
   fresh-left : (p : ℕ) → left s n (fresh_of s) p ≤ length s
-  unfolding left fresh_of pick
+  unfolding left fresh_of
   fresh-left p = omega arith
 
   fresh-worth : worth s n (fresh_of s) 0 ≤ most (length s)

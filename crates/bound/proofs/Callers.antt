@@ -6,6 +6,7 @@ use mathlib.Core.List.{List}
 use native.Mathlib.Omega.{arith}
 use borrow.Author.Tests.{le-ltb}
 use lib.ListN.{length}
+use lib.Dec.{ltb}
 use Rattle.fields.specs.Answer.{Answer, gives, ends, refuses, ◌⟫◌}
 use Rattle.fields.specs.declared.RecordNumber.{RecordNumber}
 use Rattle.fields.specs.declared.Refusal.{Refusal}
@@ -34,14 +35,13 @@ unfolding inside_of
 lies-inside s n l h = by-list l.is refl
   where
     by-list : (t : Bool) → l.is ≡ t → inside_of s n l ≡ gives tt
-    by-list true e = sym (yes _ _ _ e (no _ _ _ (le-ltb _ _ (h.order e)) (no _ _ _ (le-ltb _ _ (h.most e)) refl)))
-    by-list false e = sym (no _ _ _ e refl)
+    by-list true e = sym (yes l.is _ _ e (no (ltb l.to l.from) _ _ (le-ltb _ _ (h.order e)) (no (ltb (length s) l.to) _ _ (le-ltb _ _ (h.most e)) refl)))
+    by-list false e = sym (no l.is _ _ e refl)
 
 module _ (s : List ℕ) (n : RecordNumber) (t : List ℕ) where
   -- behind the opening checks, and with a list inside the record, the calls are the walk's
   module _ (h : Numbers) (o : open_table s n t ≡ gives h) where
     passes : (l : Rest) → Lies (length s) l → (open_table s n t ⟫ λ _. inside_of s n l) ≡ gives tt
-    unfolding ◌⟫◌
     passes l y = ap (λ (a : Answer Numbers). a ⟫ λ _. inside_of s n l) o ∙ lies-inside s n l y
 
     next-is : (w : State) → Lies (length s) w.list → next_of s n t w ≡ next_in s n (record_of t) w
@@ -106,7 +106,7 @@ module _ (s : List ℕ) (n : RecordNumber) (t : List ℕ) where
     Few c = c ≤ length s / 16 + 3 * (length s / 26) + 2 * (length s / 26 * (length s / 16))
 
     bounded-by : (a : Answer Numbers) → open_table s n t ≡ a → (c : ℕ) → Calls (fresh_of s) c → Few c
-    unfolding next_after ◌⟫◌
+    unfolding next_after
     bounded-by (gives h) e c l = subst Few (sym (calls-counted h e c l)) (third_of s n t h room e).bound
     bounded-by ends e c l = subst Few (sym (none_read ends (λ i q. ended-given q) (refused-opening ends (fresh_of s) e) l)) zero-le
     bounded-by (refuses r) e c l = subst Few (sym (none_read (refuses r) (λ i q. refused-given q) (refused-opening (refuses r) (fresh_of s) e) l)) zero-le

@@ -6,6 +6,9 @@ use mathlib.Core.List.{List, [], ◌∷◌, ◌++◌}
 use mathlib.Core.Option.{Option}
 use native.Mathlib.Omega.{arith}
 use lib.ListN.{length, length-append}
+use lib.Dec.{eqb, ltb}
+use Rattle.fields.specs.Known.{known_type}
+use Rattle.turns.specs.Key.{agrees}
 use Rattle.fields.specs.Answer.{Answer, gives, ends, refuses, refusal, Counted}
 use Rattle.fields.specs.Walk.{stop, go}
 use Rattle.fields.specs.Header.{first_attribute}
@@ -53,16 +56,16 @@ module _ (s : List ℕ) (n : RecordNumber) (ty instance : ℕ) (miss : Refusal) 
   sought-stop p a (refuses r) e = subst (Stopped p []) (the-stop e) (omega arith)
   sought-stop p a (gives h) e =
       ⊎_elim
-      (λ f. ⊎_elim (λ g. subst (Stopped p (seen n (gives h))) (the-stop g) (omega arith)) (λ g. absurd (go-stop g)) (either _ _ _ _ f))
-      (λ f. subst (Stopped p (seen n (gives h))) (the-stop f) (omega arith)) (either _ _ _ _ e)
+      (λ f. ⊎_elim (λ g. subst (Stopped p (seen n (gives h))) (the-stop g) (omega arith)) (λ g. absurd (go-stop g)) (either (find.is_it h ty instance) _ _ _ f))
+      (λ f. subst (Stopped p (seen n (gives h))) (the-stop f) (omega arith)) (either (known_type h.ty) _ _ _ e)
 
   sought-go : (p q : find.Place) (l : List Read) (a : Counted Attribute) (x : Answer Attribute) → find.judged s n ty instance miss p x ≡ go q → Sought q l a → Sought p (seen n x ++ l) a
   unfolding find.judged seen
   sought-go p q l a ends e h = absurd (stop-go e)
   sought-go p q l a (refuses r) e h = absurd (stop-go e)
   sought-go p q l a (gives x) e h =
-      let f = not-second _ _ _ _ e stop-go in
-      let g = not_first _ _ _ _ f.1 stop-go in
+      let f = not-second (known_type x.ty) _ _ _ e stop-go in
+      let g = not_first (find.is_it x ty instance) _ _ _ f.1 stop-go in
       let k : q.reads ≡ p.reads + 1 = sym (ap (λ (y : find.Place). y.reads) (the-go g.1)) in
       omega arith
 
@@ -101,7 +104,7 @@ module _ (s : List ℕ) (n : RecordNumber) (look : RecordNumber → Option (List
   entry-costs part w (refuses r) = refl
   entry-costs part w (gives e) =
       let b = Behind (entry w.list e) in
-      both_by b _ _ _ _ _ (both_by b _ _ _ _ _ refl (both_by b _ _ _ _ _ refl (looked-costs part w e (entry w.list e) _))) refl
+      both_by b (known_type e.ty) _ _ _ _ (both_by b (eqb e.file.0 n.0) _ _ _ _ refl (both_by b (agrees w.key e part) _ _ _ _ refl (looked-costs part w e (entry w.list e) _))) refl
 
   list-costs : (w : State) (h : Attribute) (x : Read) (a : Answer Span) → Costs (list_turn w h a) (x ∷ [])
   unfolding list_turn
@@ -113,7 +116,7 @@ module _ (s : List ℕ) (n : RecordNumber) (look : RecordNumber → Option (List
   unfolding raw_after raw_trail
   raw-costs w ends = refl
   raw-costs w (refuses r) = refl
-  raw-costs w (gives h) = both (λ y. Costs y (own h ∷ [])) _ _ _ (list-costs w h (own h) (list_in s n h)) refl
+  raw-costs w (gives h) = both (λ y. Costs y (own h ∷ [])) (eqb h.ty 0x20) _ _ (list-costs w h (own h) (list_in s n h)) refl
 
   step-costs : (w : State) → Costs (small_step s n look w) (step_trail s n look w)
   unfolding small_step step_trail entry_turn raw_turn
@@ -164,7 +167,7 @@ module _ (s : List ℕ) (n : RecordNumber) (look : RecordNumber → Option (List
     joined-spends : (k : ℕ) (next : Cursor) (e : Entry) (place : ℕ) (x : Read) (j : Answer Unit) → Spends (step_joined s n look room k next e place j) (x ∷ join_trail s n look room k e place j)
     unfolding step_joined step_part part_of join_trail lookup_trail
     joined-spends k next e place x (gives u) =
-        both_by (λ y l. Spends y (x ∷ l)) _ _ _ _ _ (after-spends next (part_looked s n look e place (lookup_in s n look e.file place)).answer _ x _ (part_count e place _)) refl
+        both_by (λ y l. Spends y (x ∷ l)) (ltb k room) _ _ _ _ (after-spends next (part_looked s n look e place (lookup_in s n look e.file place)).answer _ x _ (part_count e place _)) refl
     joined-spends k next e place x ends = refl
     joined-spends k next e place x (refuses r) = refl
 

@@ -8,6 +8,7 @@ use mathlib.Core.Option.{Option, some}
 use native.Mathlib.Nat.{le_refl}
 use native.Mathlib.Omega.{arith}
 use lib.ListN.{length}
+use lib.Dec.{eqb}
 use Rattle.fields.specs.Pick.{pick}
 use Rattle.fields.specs.Answer.{gives}
 use Rattle.fields.specs.declared.RecordNumber.{RecordNumber}
@@ -33,7 +34,7 @@ module _ (s : List ℕ) (n : RecordNumber) (look : RecordNumber → Option (List
   looked-sized : (w : RecordNumber) (at : ℕ) (t : List ℕ) → lookup_in s n look w at ≡ gives t → length t ≤ length s
   unfolding sought_in
   looked-sized w at t e =
-      ⊎_elim (λ q. subst (λ (x : List ℕ). length x ≤ length s) (the-some q) (le_refl (length s))) (z w t) (either _ _ _ _ (sought s n look w at t e).is)
+      ⊎_elim (λ q. subst (λ (x : List ℕ). length x ≤ length s) (the-some q) (le_refl (length s))) (z w t) (either (eqb w.0 n.0) _ _ _ (sought s n look w at t e).is)
 
   -- the search in a record that was looked up
   pub few : (w : RecordNumber) (at : ℕ) (t : List ℕ) → lookup_in s n look w at ≡ gives t → (ty instance : ℕ) (miss : Refusal) → (find_of t w ty instance miss).reads ≤ length s / 16
@@ -49,12 +50,10 @@ stood s n l e q = let g = entries.given (part_of s l) n l.from e q in record { l
 
 -- what holds of each side, where the test says so, holds of the choice
 pub by-test : {A : Type 0} (P : A → Type 0) (t : Bool) (x y : A) → (t ≡ true → P x) → (t ≡ false → P y) → P (pick t x y)
-unfolding pick
 by-test P true x y p q = p refl
 by-test P false x y p q = q refl
 
 -- what holds of the two first sides, and of the two second sides, holds of two choices by one test
 pub both_by : {A B : Type 0} (P : A → B → Type 0) (t : Bool) (x y : A) (x' y' : B) → P x x' → P y y' → P (pick t x y) (pick t x' y')
-unfolding pick
 both_by P true x y x' y' p q = p
 both_by P false x y x' y' p q = q

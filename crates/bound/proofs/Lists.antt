@@ -6,6 +6,9 @@ use mathlib.Core.Logic.{◌⊎◌, inl, inr}
 use mathlib.Core.List.{List}
 use mathlib.Core.Option.{Option}
 use native.Mathlib.Omega.{arith}
+use lib.Dec.{eqb}
+use Rattle.fields.specs.Known.{known_type}
+use Rattle.turns.specs.Key.{agrees}
 use Rattle.fields.specs.Pick.{pick}
 use Rattle.fields.specs.Answer.{Answer, gives, ends, refuses}
 use Rattle.fields.specs.declared.RecordNumber.{RecordNumber}
@@ -54,7 +57,7 @@ module _ (s : List ℕ) (n : RecordNumber) (look : RecordNumber → Option (List
 
     given_holds : Holds w (given_turn s n look part w e)
     unfolding given_turn
-    given_holds = both (Holds w) _ _ _ (both (Holds w) _ _ _ past-held (both (Holds w) _ _ _ past-held (looked-holds _))) past-held
+    given_holds = both (Holds w) (known_type e.ty) _ _ (both (Holds w) (eqb e.file.0 n.0) _ _ past-held (both (Holds w) (agrees w.key e part) _ _ past-held (looked-holds _))) past-held
 
   entry-holds : w.list.is ≡ true → (part : List ℕ) (a : Answer Entry) → Holds w (entry_after s n look part w a)
   unfolding entry_after
@@ -74,10 +77,10 @@ module _ (s : List ℕ) (n : RecordNumber) (look : RecordNumber → Option (List
   raw-holds (refuses r) e = closed-held
   raw-holds (gives h) e =
       let l : w.raw < w.raw + h.length = omega (arith, (of-step s n w.raw h e).least) in
-      both (Holds w) _ _ _ (list-holds h l (list_in s n h)) (inl l)
+      both (Holds w) (eqb h.ty 0x20) _ _ (list-holds h l (list_in s n h)) (inl l)
 
   by-list : (t : Bool) → w.list.is ≡ t → Holds w (pick t (entry_turn s n look w) (raw_turn s n w))
-  unfolding pick entry_turn raw_turn
+  unfolding entry_turn raw_turn
   by-list true o = entry-holds o (part_of s w.list) (entry_of (part_of s w.list) n w.list.from)
   by-list false o = raw-holds _ refl
 

@@ -4,6 +4,9 @@ use mathlib.Core.Path.{◌≡◌, refl, sym, ap, subst, ◌∙◌}
 use mathlib.Core.List.{List, [], ◌∷◌, ◌++◌}
 use mathlib.Core.Option.{Option}
 use lib.ListN.{length}
+use lib.Dec.{eqb, ltb}
+use Rattle.fields.specs.Known.{known_type}
+use Rattle.turns.specs.Key.{agrees}
 use Rattle.fields.specs.Answer.{Answer, gives, ends, refuses, refusal}
 use Rattle.fields.specs.Walk.{stop, go}
 use Rattle.fields.specs.Header.{first_attribute}
@@ -100,7 +103,7 @@ module _ (s : List ℕ) (n : RecordNumber) (look : RecordNumber → Option (List
 
   search-foreign : (part : List ℕ) (w : State) (e : Entry) → Foreign (search_trail s n look part w e)
   unfolding search_trail
-  search-foreign part w e = both Foreign _ _ _ (both Foreign _ _ _ none-own (both Foreign _ _ _ none-own (lookup-foreign e _))) none-own
+  search-foreign part w e = both Foreign (known_type e.ty) _ _ (both Foreign (eqb e.file.0 n.0) _ _ none-own (both Foreign (agrees w.key e part) _ _ none-own (lookup-foreign e _))) none-own
 
   entry-foreign : (part : List ℕ) (w : State) (a : Answer Entry) → Foreign (entry_trail s n look part w a)
   unfolding entry_trail own_of
@@ -129,7 +132,7 @@ module _ (s : List ℕ) (n : RecordNumber) (look : RecordNumber → Option (List
   unfolding entry_after given_turn
   entry-keeps part w ends = refl
   entry-keeps part w (refuses r) = refl
-  entry-keeps part w (gives e) = both (Keeps w) _ _ _ (both (Keeps w) _ _ _ refl (both (Keeps w) _ _ _ refl (looked-keeps part w e _))) refl
+  entry-keeps part w (gives e) = both (Keeps w) (known_type e.ty) _ _ (both (Keeps w) (eqb e.file.0 n.0) _ _ refl (both (Keeps w) (agrees w.key e part) _ _ refl (looked-keeps part w e _))) refl
 
   -- a small step: the raw place moves past what it reads
   abbrev Moves : State → Small → List Read → Type 0
@@ -155,7 +158,7 @@ module _ (s : List ℕ) (n : RecordNumber) (look : RecordNumber → Option (List
   raw-moves w (refuses r) e = refl
   raw-moves w (gives h) e =
       let g = of-step s n w.raw h e in
-      both (λ x. Moves w x (own h ∷ [])) _ _ _ (list-moves w h g (list_in s n h)) (g, refl)
+      both (λ x. Moves w x (own h ∷ [])) (eqb h.ty 0x20) _ _ (list-moves w h g (list_in s n h)) (g, refl)
 
   step-moves : (w : State) → Moves w (small_step s n look w) (step_trail s n look w)
   unfolding small_step step_trail entry_turn raw_turn
@@ -190,7 +193,7 @@ module _ (s : List ℕ) (n : RecordNumber) (look : RecordNumber → Option (List
     -- parts read none of them
     join-foreign : (k : ℕ) (e : Entry) (place : ℕ) (j : Answer Unit) → Foreign (join_trail s n look room k e place j)
     unfolding join_trail
-    join-foreign k e place (gives u) = both Foreign _ _ _ (lookup-foreign e place) none-own
+    join-foreign k e place (gives u) = both Foreign (ltb k room) _ _ (lookup-foreign e place) none-own
     join-foreign k e place ends = none-own
     join-foreign k e place (refuses r) = none-own
 

@@ -8,8 +8,9 @@ use native.Mathlib.Nat.{not-suc-le-zero, lt-suc_self}
 use native.Mathlib.Omega.{arith}
 use borrow.Author.Tests.{eqb-true}
 use lib.ListN.{length}
+use lib.Dec.{eqb, ltb}
 use Rattle.fields.specs.Answer.{Answer, gives, ends, refuses}
-use Rattle.fields.specs.Open.{check_file, open_of, open_in}
+use Rattle.fields.specs.Open.{good_length, is_file, check_file, open_of, open_in}
 use Rattle.fields.specs.declared.RecordNumber.{RecordNumber}
 use Rattle.fields.proofs.Cases.{both, not-second}
 use Rattle.fields.proofs.Answers.{refused-given}
@@ -71,12 +72,12 @@ Sure (refuses r) = Unit {0}
 
 open-sure : (s : List ℕ) (n : RecordNumber) (size : ℕ) → Sure (open_in s n size)
 unfolding open_in open_of check_file
-open-sure s n size = both Sure _ _ _ (both Sure _ _ _ (both Sure _ _ _ tt tt) tt) tt
+open-sure s n size = both Sure (eqb (length s) size) _ _ (both Sure (good_length (length s)) _ _ (both Sure (is_file s) _ _ tt tt) tt) tt
 
 module _ (t : List ℕ) (h : Numbers) (q : table_of t ≡ gives h) (b : Held) where
   fits : {u : Unit} → open_in b.bytes b.number h.size ≡ gives u → length b.bytes ≡ h.size
   unfolding open_in
-  fits e = eqb-true _ _ (not-second _ _ _ _ e refused-given).0
+  fits e = eqb-true _ _ (not-second (eqb (length b.bytes) h.size) _ _ _ e refused-given).0
 
   opened-tells : (x : Text) (a : Answer Unit) → open_in b.bytes b.number h.size ≡ a → Sure a
       → Tells b.bytes (x ∷ opened_lines b.bytes b.number (record_of t) a)
@@ -107,4 +108,4 @@ checked-listed t (refuses r) e = inl refl
 -- for every table, whatever its bytes
 pub listing-listed : (t : List ℕ) → Listed t (listing_of t)
 unfolding listing_of
-listing-listed t = both (Listed t) _ _ _ (inl refl) (checked-listed t (table_of t) refl)
+listing-listed t = both (Listed t) (ltb 65536 (length t)) _ _ (inl refl) (checked-listed t (table_of t) refl)

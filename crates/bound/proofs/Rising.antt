@@ -54,11 +54,13 @@ rising-before lo hi (x ∷ l) r = before-trans lo x hi r.0 (before-trans x (behi
 
 -- one of them
 pub first : (lo hi : Spot) (x : Spot) (l : List Spot) → Rising lo l hi → Memᴰ x l → Before lo x
+first lo hi x [] r m = elim m [ ]
 first lo hi x (y ∷ l) r (Memᴰ.head e) = subst (Before lo) (sym e) r.0
 first lo hi x (y ∷ l) r (Memᴰ.tail h) =
     before-trans lo y x r.0 (before-trans y (behind y) x (forth y) (first (behind y) hi x l r.1 h))
 
 pub last : (lo hi : Spot) (x : Spot) (l : List Spot) → Rising lo l hi → Memᴰ x l → Before (behind x) hi
+last lo hi x [] r m = elim m [ ]
 last lo hi x (y ∷ l) r (Memᴰ.head e) = subst (λ (z : Spot). Before (behind z) hi) (sym e) (rising-before (behind y) hi l r.1)
 last lo hi x (y ∷ l) r (Memᴰ.tail h) = last (behind y) hi x l r.1 h
 

@@ -8,6 +8,8 @@ use mathlib.Core.Option.{Option}
 use native.Mathlib.Nat.{le_refl}
 use native.Mathlib.Omega.{arith}
 use lib.ListN.{length}
+use lib.Dec.{eqb}
+use Rattle.fields.specs.Known.{known_type}
 use Rattle.fields.specs.Pick.{pick}
 use Rattle.fields.specs.Answer.{Answer, gives, ends, refuses}
 use Rattle.fields.specs.declared.RecordNumber.{RecordNumber}
@@ -42,11 +44,11 @@ module _ (s : List ℕ) (n : RecordNumber) where
   left w p = length s - w.raw + pick w.list.is (w.list.to - p) 0
 
   left_open : (w : State) (p : ℕ) → w.list.is ≡ true → left w p ≡ length s - w.raw + (w.list.to - p)
-  unfolding left pick
+  unfolding left
   left_open w p o = rw o
 
   left-shut : (w : State) (p : ℕ) → w.list.is ≡ false → left w p ≡ length s - w.raw + 0
-  unfolding left pick
+  unfolding left
   left-shut w p o = rw o
 
   -- what a state is worth, where the entries of the open list that gave parts end at g
@@ -79,7 +81,7 @@ module _ (s : List ℕ) (n : RecordNumber) where
     -- an item without a list has no parts
     alone : {w : State} {g : ℕ} {v : State} {c : ℕ} (i : Item) → i.rest ≡ no_list → Goes w g v c []
         → Goes w g v (c + (parts_in s n look room i.rest).reads) (spots_of s n look room v i)
-    unfolding spots_of parts_in gave_in pick
+    unfolding spots_of parts_in gave_in
     alone {w} {g} {v} {c} i q h =
         let e : c ≡ c + 0 = omega arith in
         subst (λ (l : Rest). Goes w g v (c + (parts_in s n look room l).reads) (map (λ r. spot v.raw r.from) (gave_in s n look room l))) (sym q)
@@ -104,7 +106,7 @@ module _ (s : List ℕ) (n : RecordNumber) where
 
         -- passed over
         over : Goes w g (past w e) 1 []
-        unfolding worth left pick
+        unfolding worth left
         over =
             let p = peel s n w.key w.list e st.count g q (st.run o) in
             record {
@@ -121,7 +123,7 @@ module _ (s : List ℕ) (n : RecordNumber) where
 
           -- an item without parts, or a refusal
           without : Goes w g (cleared w e) (c + 1) []
-          unfolding worth left pick
+          unfolding worth left
           without =
               let l = owes in
               let x : g ≤ w.list.from + e.length = omega arith in
@@ -135,7 +137,7 @@ module _ (s : List ℕ) (n : RecordNumber) where
           -- an item with its parts
           parted : (i : Item) → i.rest ≡ w.list
               → Goes w g (past_with w e (key_of e (listPart s w.list))) (c + 1 + (parts_in s n look room i.rest).reads) (spots_of s n look room (past_with w e (key_of e (listPart s w.list))) i)
-          unfolding worth left pick spots_of
+          unfolding worth left spots_of
           parted i f =
               let v = past_with w e (key_of e (listPart s w.list)) in
               let t = begun s n w.raw look z room w.list e o q in
@@ -165,8 +167,8 @@ module _ (s : List ℕ) (n : RecordNumber) where
         given-good : Good w g (given_turn s n look (listPart s w.list) w e)
         unfolding given_turn
         given-good =
-            both (Good w g) _ _ _
-            (both (Good w g) _ _ _ over (by-test (Good w g) _ _ _ (λ _. over) (λ d. looked-good d _ refl)))
+            both (Good w g) (known_type e.ty) _ _
+            (both (Good w g) (eqb e.file.0 n.0) _ _ over (by-test (Good w g) (agrees w.key e (listPart s w.list)) _ _ (λ _. over) (λ d. looked-good d _ refl)))
             (entry-some 0 zero-le)
 
       -- a list that ends is closed: what was left of it is lost
@@ -232,10 +234,10 @@ module _ (s : List ℕ) (n : RecordNumber) where
         raw-good (refuses r) e = zero-le
         raw-good (gives h) e =
             let k = of-step s n w.raw h e in
-            both (Good w g) _ _ _ (list-good h k (list_in s n h) refl) (alone _ refl (passed-goes h k))
+            both (Good w g) (eqb h.ty 0x20) _ _ (list-good h k (list_in s n h) refl) (alone _ refl (passed-goes h k))
 
       by-list : (t : Bool) → w.list.is ≡ t → Good w g (pick t (entry_turn s n look w) (raw_turn s n w))
-      unfolding pick entry_turn raw_turn
+      unfolding entry_turn raw_turn
       by-list true o = entry-good o _ refl
       by-list false o = raw-good o _ refl
 

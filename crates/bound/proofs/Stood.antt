@@ -3,6 +3,9 @@ use Prim.Native.Nat.{ℕ, zero, suc, ◌+◌}
 use mathlib.Core.Path.{◌≡◌, refl, sym, subst}
 use mathlib.Core.List.{List, [], ◌∷◌, ◌++◌}
 use mathlib.Core.Option.{Option}
+use lib.Dec.{eqb, ltb}
+use Rattle.fields.specs.Known.{known_type}
+use Rattle.turns.specs.Key.{agrees}
 use Rattle.fields.specs.Answer.{Answer, gives, ends, refuses}
 use Rattle.fields.specs.Header.{first_attribute}
 use Rattle.fields.specs.declared.RecordNumber.{RecordNumber}
@@ -82,7 +85,7 @@ module _ (s : List ℕ) (n : RecordNumber) (look : RecordNumber → Option (List
   -- a small step of the walk
   entry-all : (w : State) (a : Answer Entry) → entry_of (listPart s w.list) n w.list.from ≡ a → All (entry_trail s n look (listPart s w.list) w a)
   unfolding entry_trail search_trail
-  entry-all w (gives e) q = (q, both All _ _ _ (both All _ _ _ tt (both All _ _ _ tt (lookup-all e _))) tt)
+  entry-all w (gives e) q = (q, both All (known_type e.ty) _ _ (both All (eqb e.file.0 n.0) _ _ tt (both All (agrees w.key e (listPart s w.list)) _ _ tt (lookup-all e _))) tt)
   entry-all w ends q = tt
   entry-all w (refuses r) q = tt
 
@@ -106,7 +109,7 @@ module _ (s : List ℕ) (n : RecordNumber) (look : RecordNumber → Option (List
     -- a step of the parts
     join-all : (k : ℕ) (e : Entry) (place : ℕ) (j : Answer Unit) → All (join_trail s n look room k e place j)
     unfolding join_trail
-    join-all k e place (gives u) = both All _ _ _ (lookup-all e place) tt
+    join-all k e place (gives u) = both All (ltb k room) _ _ (lookup-all e place) tt
     join-all k e place ends = tt
     join-all k e place (refuses r) = tt
 

@@ -7,6 +7,7 @@ use mathlib.Core.Option.{Option}
 use native.Mathlib.Nat.{le_refl}
 use native.Mathlib.Omega.{arith}
 use lib.ListN.{length}
+use lib.Dec.{ltb}
 use Rattle.fields.specs.Answer.{Answer, gives, ends, refuses}
 use Rattle.fields.specs.declared.RecordNumber.{RecordNumber}
 use Rattle.fields.proofs.Cases.{both, yes}
@@ -170,14 +171,14 @@ module _ (s : List ℕ) (n : RecordNumber) where
 
         joined-spent : (i : ℕ) (c : Cursor) (e : Entry) (place : ℕ) (j : Answer Unit) → Spent k c e (step_joined s n look room i (cursor_past c e k) e place j)
         unfolding step_joined
-        joined-spent i c e place (gives u) = both (Spent k c e) _ _ _ (part-spent c e place) (omega arith)
+        joined-spent i c e place (gives u) = both (Spent k c e) (ltb i room) _ _ (part-spent c e place) (omega arith)
         joined-spent i c e place ends = omega arith
         joined-spent i c e place (refuses r) = omega arith
 
         joined-fine : (i : ℕ) (c : Cursor) (e : Entry) → here c.list ≡ gives e → (is : k.is ≡ true) (place : ℕ) (j : Answer Unit) → Joins k is e (listPart s c.list) j
             → Fine k c (step_joined s n look room i (cursor_past c e k) e place j)
         unfolding step_joined
-        joined-fine i c e q is place (gives u) a = both (Fine k c) _ _ _ (fine k c e q a (step_part (cursor_past c e k) (part_of s n look e place)) (part-spent c e place)) (took-none k c.list 1 (le_refl 1))
+        joined-fine i c e q is place (gives u) a = both (Fine k c) (ltb i room) _ _ (fine k c e q a (step_part (cursor_past c e k) (part_of s n look e place)) (part-spent c e place)) (took-none k c.list 1 (le_refl 1))
         joined-fine i c e q is place ends a = took-none k c.list 1 (le_refl 1)
         joined-fine i c e q is place (refuses r) a = took-none k c.list 1 (le_refl 1)
 
@@ -258,4 +259,4 @@ module _ (s : List ℕ) (n : RecordNumber) where
       pub begun : (l : Rest) (e : Entry) → l.is ≡ true → here l ≡ gives e → Begun (key_of e (listPart s l)) l e (parts_in s n look room l).reads (gave_in s n look room l)
       unfolding parts_in parts_from gave_in gave_from
       begun l e o q =
-          subst₂ (λ (x : Listing) (y : List Rest). Begun (key_of e (listPart s l)) l e x.reads y) (yes _ _ _ o refl) (yes _ _ _ o refl) (begun-run (l.to - l.from) 0 l e q)
+          subst₂ (λ (x : Listing) (y : List Rest). Begun (key_of e (listPart s l)) l e x.reads y) (yes l.is _ _ o refl) (yes l.is _ _ o refl) (begun-run (l.to - l.from) 0 l e q)
