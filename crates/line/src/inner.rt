@@ -1,10 +1,11 @@
 // The lines of the listing, each put behind the text so far, for callers that have shown that there is room. None is longer than 256 bytes.
-ghost use Rattle.std.specs.Prelude.{◌+◌, ◌≤◌, ◌≡◌, length};
+ghost use Rattle.std.specs.Prelude.{◌+◌, ◌≤◌, ◌≡◌, [], ◌∷◌, ◌++◌, length};
 ghost use Rattle.fields.specs.Pick.{pick};
 ghost use Rattle.values.specs.Span.{told_spanned};
 ghost use Rattle.values.specs.Value.{told_valued};
 ghost use Rattle.parts.specs.Parts.{told_ended};
 ghost use Rattle.text.specs.Put.{Put};
+ghost use Rattle.text.specs.Decimal.{numbers};
 ghost use Rattle.line.specs.Lines.{record_line, name_text, value_text, parts_text, attr_line, part_line_of, end_line, stopped_line, refused_line};
 
 use crate::Gathered;
@@ -14,13 +15,29 @@ use text::inner::{put_byte, put_words};
 use turns::Item;
 use values::{Spanned, Valued};
 
+// A word and the number behind it.
+fn put_one(out: &mut [u8], at: usize, word: &[u8], n: u64) -> usize
+    requires { at + (length word.now + 21) ≤ length out.old }
+    ensures { Put out.old at out.new result (word.now ++ numbers (n ∷ [])) (length word.now + 21) }
+{
+    put_words(out, at, word, &[n])
+}
+
+// A word and the two numbers behind it.
+fn put_pair(out: &mut [u8], at: usize, word: &[u8], n: u64, m: u64) -> usize
+    requires { at + (length word.now + 42) ≤ length out.old }
+    ensures { Put out.old at out.new result (word.now ++ numbers (n ∷ m ∷ [])) (length word.now + 42) }
+{
+    put_words(out, at, word, &[n, m])
+}
+
 // record NUMBER size M
 pub fn record_line(out: &mut [u8], at: usize, number: RecordNumber, size: usize) -> usize
     requires { at + 256 ≤ length out.old }
     ensures { Put out.old at out.new result (record_line number size) 256 }
 {
-    let end = put_words(out, at, b"record", &[number.0]);
-    let end = put_words(out, end, b" size", &[size as u64]);
+    let end = put_one(out, at, b"record", number.0);
+    let end = put_one(out, end, b" size", size as u64);
     put_byte(out, end, b'\n')
 }
 
@@ -30,8 +47,8 @@ fn put_name(out: &mut [u8], at: usize, name: Spanned) -> usize
     ensures { Put out.old at out.new result (name_text (told_spanned name)) 55 }
 {
     match name {
-        Spanned::Refused(r) => put_words(out, at, b" name refused", &[r.number as u64]),
-        Spanned::At(p) => put_words(out, at, b" name", &[p.from as u64, p.bytes as u64]),
+        Spanned::Refused(r) => put_one(out, at, b" name refused", r.number as u64),
+        Spanned::At(p) => put_pair(out, at, b" name", p.from as u64, p.bytes as u64),
     }
 }
 
@@ -41,16 +58,11 @@ fn put_value(out: &mut [u8], at: usize, value: Valued) -> usize
     ensures { Put out.old at out.new result (value_text (told_valued value)) 79 }
 {
     match value {
-        Valued::Refused(r) => put_words(out, at, b" value refused", &[r.number as u64]),
-        Valued::Resident(p) => put_words(
-            out,
-            at,
-            b" value resident",
-            &[p.from as u64, p.bytes as u64],
-        ),
+        Valued::Refused(r) => put_one(out, at, b" value refused", r.number as u64),
+        Valued::Resident(p) => put_pair(out, at, b" value resident", p.from as u64, p.bytes as u64),
         Valued::Runs(p, size) => {
-            let end = put_words(out, at, b" value runs", &[p.from as u64, p.bytes as u64]);
-            put_words(out, end, b" size", &[size])
+            let end = put_pair(out, at, b" value runs", p.from as u64, p.bytes as u64);
+            put_one(out, end, b" size", size)
         }
     }
 }
@@ -60,11 +72,11 @@ fn put_parts(out: &mut [u8], at: usize, g: Gathered) -> usize
     requires { at + 79 ≤ length out.old }
     ensures { Put out.old at out.new result (parts_text g.count g.size (told_ended g.answer)) 79 }
 {
-    let end = put_words(out, at, b" value parts", &[g.count as u64]);
+    let end = put_one(out, at, b" value parts", g.count as u64);
     let answer = g.answer;
     match answer {
-        Ended::Whole => put_words(out, end, b" size", &[g.size]),
-        Ended::Refused(r) => put_words(out, end, b" refused", &[r.number as u64]),
+        Ended::Whole => put_one(out, end, b" size", g.size),
+        Ended::Refused(r) => put_one(out, end, b" refused", r.number as u64),
     }
 }
 
@@ -122,7 +134,7 @@ pub fn end_line(out: &mut [u8], at: usize, reads: u64) -> usize
     requires { at + 256 ≤ length out.old }
     ensures { Put out.old at out.new result (end_line reads) 256 }
 {
-    let end = put_words(out, at, b"end reads", &[reads]);
+    let end = put_one(out, at, b"end reads", reads);
     put_byte(out, end, b'\n')
 }
 
@@ -131,8 +143,8 @@ pub fn stopped_line(out: &mut [u8], at: usize, n: u8, reads: u64) -> usize
     requires { at + 256 ≤ length out.old }
     ensures { Put out.old at out.new result (stopped_line n reads) 256 }
 {
-    let end = put_words(out, at, b"stopped", &[n as u64]);
-    let end = put_words(out, end, b" reads", &[reads]);
+    let end = put_one(out, at, b"stopped", n as u64);
+    let end = put_one(out, end, b" reads", reads);
     put_byte(out, end, b'\n')
 }
 
@@ -141,6 +153,6 @@ pub fn refused_line(out: &mut [u8], at: usize) -> usize
     requires { at + 256 ≤ length out.old }
     ensures { Put out.old at out.new result refused_line 256 }
 {
-    let end = put_words(out, at, b"table refused", &[21]);
+    let end = put_one(out, at, b"table refused", 21);
     put_byte(out, end, b'\n')
 }
