@@ -6,7 +6,7 @@ use mathlib.Core.Option.{Option}
 use native.Mathlib.Nat.{not-suc-le-zero, zero-add, add_assoc}
 use native.Mathlib.Omega.{arith}
 use borrow.Author.Tests.{ltb-true}
-use lib.ListN.{length, take, drop, set, length-set, take-append-drop}
+use lib.ListN.{length, take, drop, set, length-set, take-append-drop, length-replicate}
 use lib.Seq.{drop-set-lt, drop-drop, length-take-le}
 use Rattle.fields.proofs.Stores.{stored}
 use Rattle.fields.specs.Answer.{Answer, gives, ends, refuses}
@@ -19,11 +19,17 @@ use Rattle.turns.specs.State.{no_key, part_of as listPart}
 use Rattle.turns.specs.declared.Rest.{Rest}
 use Rattle.turns.proofs.Turns.{entry-inside}
 use Rattle.part.specs.Join.{key_for}
-use Rattle.parts.specs.Parts.{Stepped, lists, stops, told_kind, told_turn, cursor, cursor_past, step_after, step_part, step_joined, step_keyed, step_entered, step_in, Listing, listing, parts_after, parts_run, parts_from, filled}
+use Rattle.parts.specs.Parts.{Stepped, lists, stops, told_kind, told_turn, cursor, cursor_past, step_after, step_part, step_joined, step_keyed, step_entered, step_in, Listing, listing, parts_after, parts_run, parts_from, filled, told_ended, no_part, blank_parts, Collects}
 use Rattle.part.specs.declared.Part.{Part}
 use Rattle.parts.specs.declared.Cursor.{Cursor}
+use Rattle.parts.specs.declared.Ended.{Ended}
 use Rattle.parts.specs.declared.PartKind.{PartKind}
+use Rattle.parts.specs.declared.PartKind.TheVariants as kind
 use Rattle.parts.specs.declared.PartTurn.{PartTurn}
+
+pub blank_size : length blank_parts ≡ 157
+unfolding blank_parts
+blank_size = length-replicate 157 no_part
 
 -- a step, told by what the match on its kind found
 pub made : (t : PartTurn) {k : PartKind} → t.kind ≡ k → told_turn t ≡ told_kind k t.next t.reads
@@ -75,6 +81,9 @@ module _ (s : List ℕ) (n : RecordNumber) (look : RecordNumber → Option (List
   unfolding step_in
   goes k c d p r g = entered-goes k c d p r (entry_of (listPart s c.list) n c.list.from) refl g
 
+  pub goes_on : (k : ℕ) (c : Cursor) (m : PartTurn) (p : Part) → told_turn m ≡ step_in s n look room k c → m.kind ≡ kind.Lists p → Goes k c m.next
+  goes_on k c m p e i = goes k c m.next p m.reads (sym e ∙ made m i)
+
   -- more steps change nothing
   turned : (f g k : ℕ) (c : Cursor) → ((d : Cursor) → left d < f → left d < g → parts_run s n look room f (k + 1) d ≡ parts_run s n look room g (k + 1) d)
       → (x : Stepped) → step_in s n look room k c ≡ x → left c < suc f → left c < suc g
@@ -125,6 +134,10 @@ module _ (s : List ℕ) (n : RecordNumber) (look : RecordNumber → Option (List
     few = omega arith;
   }
 
+  pub begun_at : (l : Rest) (before parts : List Part) (c : Cursor) → l.from ≤ l.to → parts ≡ before → c ≡ cursor l no_key
+      → Filling l before parts 0 0 c
+  begun_at l before parts c o p q = rw (p, q) (begun l before o)
+
   module _ (l : Rest) (before parts : List Part) (count reads : ℕ) (c : Cursor) (h : Filling l before parts count reads c) where
     pub stopped : (a : Answer Unit) (k : ℕ) → step_in s n look room count c ≡ stops a k → parts_from s n look room l ≡ listing (take count parts) a (reads + k)
     unfolding parts_run parts_after
@@ -133,12 +146,25 @@ module _ (s : List ℕ) (n : RecordNumber) (look : RecordNumber → Option (List
         ∙ ap (λ (ps : List Part). listing ps a (reads + k)) (append-nil (take count parts))
 
     -- the parts collected are those of the definition, the tail as it was
-    pub filled-so : parts ≡ filled (take count parts) before
+    pub filled_so : parts ≡ filled (take count parts) before
     unfolding filled
-    filled-so =
+    filled_so =
         let z = h.size in let m = h.most in
         sym (take-append-drop count parts) ∙ ap (λ (t : List Part). take count parts ++ t) h.tail
         ∙ ap (λ (k : ℕ). take count parts ++ drop k before) (sym (length-take-le count parts (omega arith)))
+
+    -- parts collected by value, where a step stops
+    pub collected : (a : Ended) (k : ℕ) → step_in s n look room count c ≡ stops (told_ended a) k
+        → Collects (parts_from s n look room l) before (record { parts = parts; count = count; answer = a; reads = reads + k })
+    collected a k e =
+        let p = sym (stopped (told_ended a) k e) in
+        let m = h.most in let z = h.size in
+        record {
+          parts = filled_so ∙ ap (λ (x : Listing). filled x.parts before) p;
+          count = sym (length-take-le count parts (omega arith)) ∙ ap (λ (x : Listing). length x.parts) p;
+          answer = ap (λ (x : Listing). x.answer) p;
+          reads = ap (λ (x : Listing). x.reads) p;
+        }
 
     pub more : (p : Part) (d : Cursor) (k : ℕ) → step_in s n look room count c ≡ lists p d k → k ≤ 257 → room ≤ length before
         → Filling l before (set parts count p) (count + 1) (reads + k) d

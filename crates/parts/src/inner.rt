@@ -18,28 +18,33 @@ fn stop(a: Ended, next: Cursor, reads: u64) -> PartTurn
     ensures result_value { told_turn result ≡ stops (told_ended a) reads }
     ensures reads_value { result.reads ≡ reads }
 {
-    let kind = PartKind::Stops(a);
-    PartTurn { kind, next, reads }
+    PartTurn {
+        kind: PartKind::Stops(a),
+        next,
+        reads,
+    }
 }
 
 // The part of an entry that goes on with the stream, and where the next step begins.
+#[tactic(auto, unfolding(crate::specs::Parts::step_part, crate::specs::Parts::step_after))]
 fn step_part(f: PartFound, next: Cursor) -> PartTurn
     requires { f.reads ≤ 256 }
     ensures result_value { told_turn result ≡ step_part next (told_part f) }
     ensures reads_bound { result.reads ≤ 257 }
 {
     let reads = f.reads + 1;
-    let a = f.answer;
-    match a {
+    match f.answer {
         PartRead::Refused(r) => stop(Ended::Refused(r), next, reads),
-        PartRead::Given(p) => {
-            let kind = PartKind::Lists(p);
-            PartTurn { kind, next, reads }
-        }
+        PartRead::Given(p) => PartTurn {
+            kind: PartKind::Lists(p),
+            next,
+            reads,
+        },
     }
 }
 
 // An entry that the list gave, after k parts: whether it goes on with the stream, whether there is room, and its part.
+#[tactic(auto, unfolding(crate::specs::Parts::step_keyed, crate::specs::Parts::step_joined))]
 fn step_keyed<'a>(
     base: &'a [u8],
     number: RecordNumber,
@@ -53,7 +58,8 @@ fn step_keyed<'a>(
     key: Key,
 ) -> PartTurn
     requires ready { Ready base.now t.now h }
-    requires length_bound { (c.list.from + e.length ≤ c.list.to) × (c.list.to ≤ length base.now) }
+    requires length_bound { c.list.from + e.length ≤ c.list.to }
+    requires most { c.list.to ≤ length base.now }
     ensures result_value { told_turn result ≡ step_keyed base.now number (record_of t.now) room k c e part.now key }
     ensures reads_bound { result.reads ≤ 257 }
 {
@@ -64,8 +70,7 @@ fn step_keyed<'a>(
         to: c.list.to,
     };
     let next = Cursor { list, key };
-    let j = judge_part(key, e, part, number, place);
-    match j {
+    match judge_part(key, e, part, number, place) {
         Joined::End => stop(Ended::Whole, next, 1),
         Joined::Refused(r) => stop(Ended::Refused(r), next, 1),
         Joined::On => {
@@ -83,6 +88,7 @@ fn step_keyed<'a>(
 }
 
 // One step of the parts, after k of them: the entry at the cursor read, judged, and its part found.
+#[tactic(auto, using(turns::proofs::Turns::entry_within), unfolding(turns::specs::State::part_of, crate::specs::Parts::step_in, crate::specs::Parts::step_entered))]
 pub fn step<'a>(
     base: &'a [u8],
     number: RecordNumber,
@@ -93,15 +99,13 @@ pub fn step<'a>(
     c: Cursor,
 ) -> PartTurn
     requires ready { Ready base.now t.now h }
-    requires from_le_to { (c.list.from ≤ c.list.to) × (c.list.to ≤ length base.now) }
+    requires order { c.list.from ≤ c.list.to }
+    requires most { c.list.to ≤ length base.now }
     ensures result_value { told_turn result ≡ step_in base.now number (record_of t.now) room k c }
     ensures reads_bound { result.reads ≤ 257 }
 {
-    let from = c.list.from;
-    let to = c.list.to;
-    let part = &base[from..to];
-    let a = list::header(part, number, from);
-    match a {
+    let part = &base[c.list.from..c.list.to];
+    match list::header(part, number, c.list.from) {
         EntryStep::End => stop(Ended::Whole, c, 0),
         EntryStep::Refused(r) => stop(Ended::Refused(r), c, 0),
         EntryStep::Given(e) => {
@@ -134,28 +138,26 @@ pub fn collect<'a>(
     l: Rest,
 ) -> Collected
     requires ready { Ready base.now t.now h }
-    requires from_le_to { (l.from ≤ l.to) × (l.to ≤ length base.now) }
+    requires order { l.from ≤ l.to }
+    requires most { l.to ≤ length base.now }
     ensures { Collects (parts_from base.now number (record_of t.now) 157 l) blank_parts result }
 {
-    let none = blank();
-    let mut parts = [none; 157];
+    let mut parts = [blank(); 157];
     let mut count: usize = 0;
     let mut reads: u64 = 0;
-    let key = turns::inner::no_key();
-    let mut c = Cursor { list: l, key };
+    let mut c = Cursor {
+        list: l,
+        key: turns::inner::no_key(),
+    };
     let answer = loop {
         let m = step(base, number, t, h, 157, count, c);
-        let next = m.next;
-        let kind = m.kind;
         reads += m.reads;
-        match kind {
-            PartKind::Stops(a) => {
-                break a;
-            }
+        match m.kind {
+            PartKind::Stops(a) => break a,
             PartKind::Lists(p) => {
                 parts[count] = p;
                 count += 1;
-                c = next;
+                c = m.next;
             }
         }
     };

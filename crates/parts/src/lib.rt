@@ -50,12 +50,12 @@ pub struct Collected {
     pub reads: u64,
 }
 
+#[tactic(auto, unfolding(crate::specs::Parts::filled, crate::specs::Parts::blank_parts))]
 fn none(answer: Ended) -> Collected
     ensures { Collects (listing [] (told_ended answer) 0) blank_parts result }
 {
-    let blank = inner::blank();
     Collected {
-        parts: [blank; 157],
+        parts: [inner::blank(); 157],
         count: 0,
         answer,
         reads: 0,
@@ -63,23 +63,20 @@ fn none(answer: Ended) -> Collected
 }
 
 // The parts of an item, from its list on: 21, 1, 2 and 22 first. An item without a list has none. Room for 157 is room for every list of a record.
+#[tactic(auto, using(crate::proofs::Stages::ready, crate::proofs::Stages::ordered, crate::proofs::Stages::within), unfolding(crate::specs::Parts::parts_of, crate::specs::Parts::parts_opened, crate::specs::Parts::parts_in))]
 pub fn collect<'a>(base: &'a [u8], number: RecordNumber, t: &'a [u8], l: Rest) -> Collected
     ensures { Collects (parts_of base.now number t.now 157 l) blank_parts result }
 {
-    let a = table::opening(base, number, t);
-    match a {
+    match table::opening(base, number, t) {
         Tested::Refused(r) => none(Ended::Refused(r)),
-        Tested::Sound(h) => {
-            let i = items::inside(base, number, l);
-            match i {
-                Opened::Refused(r) => none(Ended::Refused(r)),
-                Opened::Passed => {
-                    if l.is {
-                        return inner::collect(base, number, t, h, l);
-                    }
-                    none(Ended::Whole)
+        Tested::Sound(h) => match items::inside(base, number, l) {
+            Opened::Refused(r) => none(Ended::Refused(r)),
+            Opened::Passed => {
+                if l.is {
+                    return inner::collect(base, number, t, h, l);
                 }
+                none(Ended::Whole)
             }
-        }
+        },
     }
 }
