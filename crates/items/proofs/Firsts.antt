@@ -19,7 +19,10 @@ use Rattle.fields.proofs.Answers.{refused-given}
 use Rattle.fields.proofs.Walks.{Falls, on-stop, on_go, stop-go, the-go}
 use Rattle.table.specs.Held.{record_of}
 use Rattle.table.specs.declared.Numbers.{Numbers}
-use Rattle.turns.specs.State.{Lies}
+use Rattle.table.specs.Check.{open_table}
+use Rattle.table.proofs.Sound.{opened}
+use Rattle.fields.proofs.Opens.{opened_sized}
+use Rattle.turns.specs.State.{Lies, Ready}
 use Rattle.items.specs.Start.{inside_of}
 use Rattle.turns.specs.Turn.{told_item}
 use Rattle.items.specs.Items.{Left, leaves, told_next, Going, going, measure, next_in, next_after}
@@ -52,49 +55,24 @@ module _ (s : List ℕ) (n : RecordNumber) (look : RecordNumber → Option (List
   unfolding first_turn first_from
   falls h k e = on-item (going (next_in s n look h.at).left (h.reads + (next_in s n look h.at).reads)) h (next_in s n look h.at).answer (next-sinks s n look h.at) k e
 
-  -- a call of `next` from g gave r, whose answer is t
-  turned : (g : Going) (r : Walked) (t : ItemStep) → told_next r ≡ next_in s n look g.at → r.answer ≡ t
-      → first_after s n look ty (going r.left (g.reads + r.reads)) (told_item t) ≡ first_turn s n look ty g
+  -- a call of `next` from g left l: it stops with x, or goes on at k
+  pub returned : (g : Going) (l : Left) (x : Counted Item) → first_in s n look ty ≡ first_walk s n look ty g → l ≡ next_in s n look g.at
+      → first_after s n look ty (going l.left (g.reads + l.reads)) l.answer ≡ stop x → x ≡ first_in s n look ty
   unfolding first_turn first_from
-  turned g r t e a =
-      ap (λ (x : ItemStep). first_after s n look ty (going r.left (g.reads + r.reads)) (told_item x)) (sym a)
-      ∙ ap (first_from s n look ty g.reads) e
+  returned g l x i e h = sym (i ∙ on-stop left (first_turn s n look ty) none g x (sym h ∙ ap (first_from s n look ty g.reads) e))
 
-  -- it stops with x, or goes on at k
-  pub returned : (g : Going) (r : Walked) (t : ItemStep) (x : Counted Item) → first_in s n look ty ≡ first_walk s n look ty g → told_next r ≡ next_in s n look g.at → r.answer ≡ t
-      → stop x ≡ first_after s n look ty (going r.left (g.reads + r.reads)) (told_item t) → x ≡ first_in s n look ty
-  returned g r t x i e a h = sym (i ∙ on-stop left (first_turn s n look ty) none g x (h ∙ turned g r t e a))
+  pub again : (g k : Going) (l : Left) → first_in s n look ty ≡ first_walk s n look ty g → l ≡ next_in s n look g.at
+      → first_after s n look ty (going l.left (g.reads + l.reads)) l.answer ≡ go k → first_in s n look ty ≡ first_walk s n look ty k
+  unfolding first_turn first_from
+  again g k l i e h = i ∙ on_go left (first_turn s n look ty) none falls g k (sym h ∙ ap (first_from s n look ty g.reads) e)
 
-  pub again : (g k : Going) (r : Walked) (t : ItemStep) → first_in s n look ty ≡ first_walk s n look ty g → told_next r ≡ next_in s n look g.at → r.answer ≡ t
-      → go k ≡ first_after s n look ty (going r.left (g.reads + r.reads)) (told_item t) → first_in s n look ty ≡ first_walk s n look ty k
-  again g k r t i e a h = i ∙ on_go left (first_turn s n look ty) none falls g k (h ∙ turned g r t e a)
+-- the opening checks show what a caller of the walk must know of the record and the table
+pub ready_of : (s : List ℕ) (n : RecordNumber) (t : List ℕ) (h : Numbers) → gives h ≡ open_table s n t → Ready s t h
+ready_of s n t h e =
+    let o = opened s n t h (sym e) in
+    record { sound = o.table; small = (opened_sized s n o.passed).most }
 
 -- check 22 shows that a list lies inside the record
-pub lies-of : (s : List ℕ) (n : RecordNumber) (l : Rest) {u : Unit} → inside_of s n l ≡ gives u → Lies (length s) l
-unfolding inside_of pick
-lies-of s n l {u} e = record { order = λ t. (tested t).0; most = λ t. (tested t).1 }
-  where
-    tested : l.is ≡ true → (l.from ≤ l.to) × (l.to ≤ length s)
-    tested t =
-        let f = subst (λ (b : Bool). pick b (pick (ltb l.to l.from) (refuses (refusal 22 n 0)) (pick (ltb (length s) l.to) (refuses (refusal 22 n 0)) (gives tt))) (gives tt) ≡ gives u) t e in
-        let a = not_first (ltb l.to l.from) _ _ _ f refused-given in
-        let b = not_first (ltb (length s) l.to) _ _ _ a.1 refused-given in
-        (grind (arith, nat_tests), grind (arith, nat_tests))
-
--- the opening checks refused, or passed
-module _ (s : List ℕ) (n : RecordNumber) (t : List ℕ) where
-  pub next-refused : (w : State) {x : Answer Unit} {r : Refusal} → refuses r ≡ x → leaves (refuses r) w 0 ≡ next_after s n t w x
-  unfolding next_after
-  next-refused w e = ap (next_after s n t w) e
-
-  pub next-passed : (w : State) {x : Answer Unit} {u : Unit} {l : Left} → gives u ≡ x → l ≡ next_in s n (record_of t) w → l ≡ next_after s n t w x
-  unfolding next_after
-  next-passed w e h = h ∙ ap (next_after s n t w) e
-
-  pub first-refused : (ty : ℕ) {x : Answer Numbers} {r : Refusal} → refuses r ≡ x → counted_item (refuses r) 0 ≡ first_after_opening s n t ty x
-  unfolding first_after_opening
-  first-refused ty e = ap (first_after_opening s n t ty) e
-
-  pub first-passed : (ty : ℕ) {x : Answer Numbers} {u : Numbers} {l : Counted Item} → gives u ≡ x → l ≡ first_in s n (record_of t) ty → l ≡ first_after_opening s n t ty x
-  unfolding first_after_opening
-  first-passed ty e h = h ∙ ap (first_after_opening s n t ty) e
+pub lies_of : (s : List ℕ) (n : RecordNumber) (l : Rest) → gives tt ≡ inside_of s n l → Lies (length s) l
+unfolding inside_of
+lies_of s n l e = record { order = λ t. grind (arith, nat_tests); most = λ t. grind (arith, nat_tests) }

@@ -44,12 +44,6 @@ module _ (s : List ℕ) (n : RecordNumber) (look : RecordNumber → Option (List
   pub start : (a : Going) → Lies (length s) a.at.list → Kept a a
   start a l = record { same = refl; less = omega arith; lies = l; few = omega arith }
 
-  pub then : {a b c : Going} → Kept a b → Kept b c → Kept a c
-  then h k =
-      let x = h.less in let y = k.less in
-      let u = h.few in let v = k.few in
-      record { same = k.same ∙ h.same; less = omega arith; lies = k.lies; few = omega arith }
-
   -- a small step passed on to v, with k reads
   pub goes : {a : Going} (b : Going) (v : State) (k : ℕ) → length s ≤ 4096 → Kept a b → small_step s n look b.at ≡ passes v k → k ≤ 257 → Kept a (going v (b.reads + k))
   unfolding turn turn_after
@@ -70,15 +64,6 @@ module _ (s : List ℕ) (n : RecordNumber) (look : RecordNumber → Option (List
   pub stops : {a : Going} (b : Going) (x : Answer Item) (v : State) (k : ℕ) → Kept a b → small_step s n look b.at ≡ answers x v k → leaves x v (b.reads + k) ≡ next_from s n look a
   unfolding turn turn_after
   stops {a} b x v k h e = sym (on-stop left (turn s n look) never b _ (sym (ap (turn_after s n look b.reads) e))) ∙ h.same
-
-  -- which small step a state takes
-  pub listed-step : (w : State) {x : Small} → w.list.is ≡ true → x ≡ entry_turn s n look w → small_step s n look w ≡ x
-  unfolding small_step
-  listed-step w l e = sym (yes _ _ _ l e)
-
-  pub raw-step : (w : State) {x : Small} → w.list.is ≡ false → x ≡ raw_turn s n w → small_step s n look w ≡ x
-  unfolding small_step
-  raw-step w l e = sym (no _ _ _ l e)
 
 -- what a call leaves
 module _ (s : List ℕ) (n : RecordNumber) (look : RecordNumber → Option (List ℕ)) (w : State) where
@@ -142,6 +127,16 @@ module _ (s : List ℕ) (n : RecordNumber) (look : RecordNumber → Option (List
         (λ g h y e. held_on g h (small_step s n look g.at) (fair s n look g.at) y e)
         (λ g l y e. listed_at g (small_step s n look g.at) (rested s n look g.at) y l e) (going w 0) lies
 
+-- the same of a state and an answer that a call told of
+module _ (s : List ℕ) (n : RecordNumber) (look : RecordNumber → Option (List ℕ)) (w v : State) (k : ℕ) where
+  pub next_lower : (i : Item) → leaves (gives i) v k ≡ next_in s n look w → measure s v < measure s w
+  next_lower i e =
+      let d = next-sinks s n look w i (ap (λ (l : Left). l.answer) (sym e)) in
+      omega (arith, d, ap (λ (l : Left). measure s l.left) e)
+
+  pub next_held : (a : Answer Item) → leaves a v k ≡ next_in s n look w → length s ≤ 4096 → Lies (length s) w.list → Lies (length s) v.list
+  next_held a e m l = subst (λ (x : Left). Lies (length s) x.left.list) (sym e) (next-lies s n look w m l)
+
 -- where the list lies inside a record of at most 4,096 bytes, the measure is small
 pub measure-small : (s : List ℕ) (w : State) → length s ≤ 4096 → Lies (length s) w.list → measure s w ≤ 12289
 unfolding measure
@@ -150,3 +145,8 @@ measure-small s w m l = by-list w.list.is refl
     by-list : (t : Bool) → w.list.is ≡ t → 2 * (length s - w.raw) + pick t (suc (w.list.to - w.list.from)) 0 ≤ 12289
     by-list true e = let a = l.most e in omega arith
     by-list false e = omega arith
+
+-- so a call reads little, wherever it stands
+pub kept_few : (s : List ℕ) (n : RecordNumber) (look : RecordNumber → Option (List ℕ)) (w : State) (b : Going) → Kept s n look (going w 0) b
+    → length s ≤ 4096 → Lies (length s) w.list → b.reads ≤ 257 * 12289
+kept_few s n look w b h m l = let f = h.few in omega (arith, measure-small s w m l)

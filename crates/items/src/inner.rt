@@ -1,18 +1,39 @@
-// The walk behind the opening checks, for callers that made them: the loops over its turns, and the first of a type.
+// The walk behind the opening checks, for callers that made them: the loop over its small steps, and the first of a type.
 ghost use Rattle.std.specs.Prelude.{◌≡◌, ◌+◌, ◌≤◌, length};
 ghost use Rattle.fields.specs.Answer.{refuses};
 ghost use Rattle.table.specs.Held.{record_of};
 ghost use Rattle.turns.specs.State.{Lies, Ready};
 ghost use Rattle.items.specs.First.{told_first, counted_item, first_in};
-ghost use Rattle.items.specs.Items.{told_next, most_reads, next_in};
+ghost use Rattle.turns.specs.Turn.{told_turn};
+ghost use Rattle.items.specs.Items.{small_step, told_next, most_reads, next_in};
 
 use crate::{First, FirstItem, Walked};
 use fields::{RecordNumber, Refusal, known_type};
 use table::Numbers;
 use turns::inner::{entry_turn, raw_turn};
-use turns::{ItemStep, Kind, State};
+use turns::{ItemStep, Kind, State, Turn};
 
-// The walk's next answer: entries of the open list, then raw attributes, until one turn answers. The state may be any whose list lies inside the record.
+// One small step: an entry of the open list, else a raw attribute.
+#[tactic(auto, unfolding(crate::specs::Items::small_step))]
+fn small_step<'a>(
+    base: &'a [u8],
+    number: RecordNumber,
+    t: &'a [u8],
+    h: Numbers,
+    w: State,
+) -> Turn
+    requires ready { Ready base.now t.now h }
+    requires lies { Lies (length base.now) w.list }
+    ensures result_value { told_turn result ≡ small_step base.now number (record_of t.now) w }
+    ensures reads_bound { result.reads ≤ 257 }
+{
+    if w.list.is {
+        return entry_turn(base, number, t, h, w);
+    }
+    raw_turn(base, number, w)
+}
+
+// The walk's next answer: small steps until one answers. The state may be any whose list lies inside the record.
 pub fn next<'a>(base: &'a [u8], number: RecordNumber, t: &'a [u8], h: Numbers, w: State) -> Walked
     requires ready { Ready base.now t.now h }
     requires lies { Lies (length base.now) w.list }
@@ -21,36 +42,20 @@ pub fn next<'a>(base: &'a [u8], number: RecordNumber, t: &'a [u8], h: Numbers, w
 {
     let mut at = w;
     let mut reads: u64 = 0;
-    let answer = 'items: loop {
-        while at.list.is {
-            let m = entry_turn(base, number, t, h, at);
-            let left = m.left;
-            let kind = m.kind;
-            at = left;
-            reads += m.reads;
-            match kind {
-                Kind::Pass => {}
-                Kind::Stop(a) => {
-                    break 'items a;
-                }
-            }
-        }
-        let m = raw_turn(base, number, at);
-        let left = m.left;
-        let kind = m.kind;
-        at = left;
+    loop {
+        let m = small_step(base, number, t, h, at);
+        at = m.left;
         reads += m.reads;
-        match kind {
+        match m.kind {
             Kind::Pass => {}
-            Kind::Stop(a) => {
-                break 'items a;
+            Kind::Stop(answer) => {
+                return Walked {
+                    answer,
+                    left: at,
+                    reads,
+                };
             }
         }
-    };
-    Walked {
-        answer,
-        left: at,
-        reads,
     }
 }
 
@@ -70,11 +75,9 @@ pub fn first_of<'a>(base: &'a [u8], number: RecordNumber, t: &'a [u8], h: Number
     let mut reads: u64 = 0;
     loop {
         let n = next(base, number, t, h, at);
-        let left = n.left;
-        let answer = n.answer;
-        at = left;
+        at = n.left;
         reads += n.reads;
-        match answer {
+        match n.answer {
             ItemStep::End => {
                 let r = Refusal {
                     number: 18,
@@ -93,10 +96,9 @@ pub fn first_of<'a>(base: &'a [u8], number: RecordNumber, t: &'a [u8], h: Number
                         return First { answer, reads };
                     }
                 } else {
-                    let file = i.file;
                     let r = Refusal {
                         number: 6,
-                        file,
+                        file: i.file,
                         place: i.attribute.offset,
                     };
                     return first_refused(r, reads);

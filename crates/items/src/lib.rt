@@ -37,6 +37,7 @@ pub struct First {
 }
 
 // A walk that begins: at the first attribute, with no list and no key.
+#[tactic(auto, unfolding(crate::specs::Start::fresh_of))]
 pub fn fresh(s: &[u8]) -> State
     ensures { result ≡ fresh_of s.now }
 {
@@ -48,6 +49,7 @@ pub fn fresh(s: &[u8]) -> State
 }
 
 // Check 22: whether a state's list lies inside the record.
+#[tactic(auto, unfolding(crate::specs::Start::inside_of))]
 pub fn inside(s: &[u8], number: RecordNumber, l: Rest) -> Opened
     ensures { told_opened result ≡ inside_of s.now number l }
 {
@@ -82,6 +84,7 @@ fn refused(r: Refusal, w: State) -> Walked
 }
 
 // The next item of a walk, its end, or a refusal: 21, 1, 2 and 22 first, then the steps. Any state may be lent.
+#[tactic(auto, using(crate::proofs::Firsts::ready_of, crate::proofs::Firsts::lies_of), unfolding(crate::specs::Items::next_of, crate::specs::Items::next_after))]
 pub fn next<'a>(base: &'a [u8], number: RecordNumber, t: &'a [u8], w: State) -> Walked
     ensures { told_next result ≡ next_of base.now number t.now w }
 {
@@ -99,6 +102,7 @@ pub fn next<'a>(base: &'a [u8], number: RecordNumber, t: &'a [u8], w: State) -> 
 }
 
 // The first item of a type, from fresh on: 21, 1 and 2 first; then 6 at an item of unknown type, 18 where the walk ends without one.
+#[tactic(auto, using(crate::proofs::Firsts::ready_of), unfolding(crate::specs::First::first_of, crate::specs::First::first_after_opening))]
 pub fn first_of<'a>(base: &'a [u8], number: RecordNumber, t: &'a [u8], ty: u32) -> First
     ensures { told_first result ≡ first_of base.now number t.now ty }
 {
