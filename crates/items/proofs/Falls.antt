@@ -82,7 +82,8 @@ module _ (s : List ℕ) where
       unfolding given_turn
       given-fair =
           both (Fair w) (known_type e.ty) _ _
-          (both (Fair w) (eqb e.file.0 n.0) _ _ (sinks _) (both (Fair w) (agrees w.key e part) _ _ (sinks _) (looked-fair _)))
+          (both (Fair w) (eqb e.file.0 n.0) _ _ (sinks _)
+          (both (Fair w) (agrees w.key e part) _ _ (sinks _) (looked-fair _)))
           (stays (sinks _))
 
     -- with its list closed, where there was one

@@ -56,15 +56,19 @@ module _ (s : List ℕ) (n : RecordNumber) (look : RecordNumber → Option (List
   falls h k e = on-item (going (next_in s n look h.at).left (h.reads + (next_in s n look h.at).reads)) h (next_in s n look h.at).answer (next-sinks s n look h.at) k e
 
   -- a call of `next` from g left l: it stops with x, or goes on at k
-  pub returned : (g : Going) (l : Left) (x : Counted Item) → first_in s n look ty ≡ first_walk s n look ty g → l ≡ next_in s n look g.at
+  pub returned : (g : Going) (l : Left) (x : Counted Item)
+      → first_in s n look ty ≡ first_walk s n look ty g → l ≡ next_in s n look g.at
       → first_after s n look ty (going l.left (g.reads + l.reads)) l.answer ≡ stop x → x ≡ first_in s n look ty
   unfolding first_turn first_from
-  returned g l x i e h = sym (i ∙ on-stop left (first_turn s n look ty) none g x (sym h ∙ ap (first_from s n look ty g.reads) e))
+  returned g l x i e h =
+      sym (i ∙ on-stop left (first_turn s n look ty) none g x (sym h ∙ ap (first_from s n look ty g.reads) e))
 
   pub again : (g k : Going) (l : Left) → first_in s n look ty ≡ first_walk s n look ty g → l ≡ next_in s n look g.at
-      → first_after s n look ty (going l.left (g.reads + l.reads)) l.answer ≡ go k → first_in s n look ty ≡ first_walk s n look ty k
+      → first_after s n look ty (going l.left (g.reads + l.reads)) l.answer ≡ go k
+      → first_in s n look ty ≡ first_walk s n look ty k
   unfolding first_turn first_from
-  again g k l i e h = i ∙ on_go left (first_turn s n look ty) none falls g k (sym h ∙ ap (first_from s n look ty g.reads) e)
+  again g k l i e h =
+      i ∙ on_go left (first_turn s n look ty) none falls g k (sym h ∙ ap (first_from s n look ty g.reads) e)
 
 -- the opening checks show what a caller of the walk must know of the record and the table
 pub ready_of : (s : List ℕ) (n : RecordNumber) (t : List ℕ) (h : Numbers) → gives h ≡ open_table s n t → Ready s t h

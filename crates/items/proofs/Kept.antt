@@ -134,7 +134,8 @@ module _ (s : List ℕ) (n : RecordNumber) (look : RecordNumber → Option (List
       let d = next-sinks s n look w i (ap (λ (l : Left). l.answer) (sym e)) in
       omega (arith, d, ap (λ (l : Left). measure s l.left) e)
 
-  pub next_held : (a : Answer Item) → leaves a v k ≡ next_in s n look w → length s ≤ 4096 → Lies (length s) w.list → Lies (length s) v.list
+  pub next_held : (a : Answer Item) → leaves a v k ≡ next_in s n look w → length s ≤ 4096
+      → Lies (length s) w.list → Lies (length s) v.list
   next_held a e m l = subst (λ (x : Left). Lies (length s) x.left.list) (sym e) (next-lies s n look w m l)
 
 -- where the list lies inside a record of at most 4,096 bytes, the measure is small
@@ -147,6 +148,6 @@ measure-small s w m l = by-list w.list.is refl
     by-list false e = omega arith
 
 -- so a call reads little, wherever it stands
-pub kept_few : (s : List ℕ) (n : RecordNumber) (look : RecordNumber → Option (List ℕ)) (w : State) (b : Going) → Kept s n look (going w 0) b
-    → length s ≤ 4096 → Lies (length s) w.list → b.reads ≤ 257 * 12289
+pub kept_few : (s : List ℕ) (n : RecordNumber) (look : RecordNumber → Option (List ℕ)) (w : State) (b : Going)
+    → Kept s n look (going w 0) b → length s ≤ 4096 → Lies (length s) w.list → b.reads ≤ 257 * 12289
 kept_few s n look w b h m l = let f = h.few in omega (arith, measure-small s w m l)

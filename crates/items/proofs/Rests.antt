@@ -46,7 +46,9 @@ module _ (s : List ℕ) where
     unfolding entry_after given_turn
     entry-rested part ends = tt
     entry-rested part (refuses r) = tt
-    entry-rested part (gives e) = both (Rested w) (known_type e.ty) _ _ (both (Rested w) (eqb e.file.0 n.0) _ _ tt (both (Rested w) (agrees w.key e part) _ _ tt (looked-rested part e _))) tt
+    entry-rested part (gives e) =
+        both (Rested w) (known_type e.ty) _ _
+        (both (Rested w) (eqb e.file.0 n.0) _ _ tt (both (Rested w) (agrees w.key e part) _ _ tt (looked-rested part e _))) tt
 
     list-rested : (h : Attribute) (a : Answer Span) → Rested w (list_turn w h a)
     unfolding list_turn

@@ -1,4 +1,4 @@
-// The walk behind the opening checks, for callers that made them: the loop over its small steps, and the first of a type.
+// The walk behind the opening checks, for callers that made them: the loop over small steps, and the first of a type.
 ghost use Rattle.std.specs.Prelude.{◌≡◌, ◌+◌, ◌≤◌, length};
 ghost use Rattle.fields.specs.Answer.{refuses};
 ghost use Rattle.table.specs.Held.{record_of};
@@ -15,13 +15,7 @@ use turns::{ItemStep, Kind, State, Turn};
 
 // One small step: an entry of the open list, else a raw attribute.
 #[tactic(auto, unfolding(crate::specs::Items::small_step))]
-fn small_step<'a>(
-    base: &'a [u8],
-    number: RecordNumber,
-    t: &'a [u8],
-    h: Numbers,
-    w: State,
-) -> Turn
+fn small_step<'a>(base: &'a [u8], number: RecordNumber, t: &'a [u8], h: Numbers, w: State) -> Turn
     requires ready { Ready base.now t.now h }
     requires lies { Lies (length base.now) w.list }
     ensures result_value { told_turn result ≡ small_step base.now number (record_of t.now) w }

@@ -22,19 +22,22 @@ loop-r-init c =
 pub returns-in-End : goal.returns-in-End
 unfolding first_after
 returns-in-End c =
-    returned _ _ _ _ (going c.loop-r.at c.loop-r.reads) (leaves ends c.next-n.result.left c.next-n.result.reads) _ c.loop-r.invariant.same
-    (rw c.in-End.is at c.next-n.ensures.result_value) (cc)
+    returned _ _ _ _ (going c.loop-r.at c.loop-r.reads)
+    (leaves ends c.next-n.result.left c.next-n.result.reads) _
+    c.loop-r.invariant.same (rw c.in-End.is at c.next-n.ensures.result_value) (cc)
 
 pub returns-in-Refused : goal.returns-in-Refused
 unfolding first_after
 returns-in-Refused c =
-    returned _ _ _ _ (going c.loop-r.at c.loop-r.reads) (leaves (refuses c.in-Refused.r) c.next-n.result.left c.next-n.result.reads) _
+    returned _ _ _ _ (going c.loop-r.at c.loop-r.reads)
+    (leaves (refuses c.in-Refused.r) c.next-n.result.left c.next-n.result.reads) _
     c.loop-r.invariant.same (rw c.in-Refused.is at c.next-n.ensures.result_value) (cc)
 
 pub returns-then-i-ty : goal.returns-then-i-ty
 unfolding first_after
 returns-then-i-ty c =
-    returned _ _ _ _ (going c.loop-r.at c.loop-r.reads) (leaves (gives c.in-Given.i) c.next-n.result.left c.next-n.result.reads) _
+    returned _ _ _ _ (going c.loop-r.at c.loop-r.reads)
+    (leaves (gives c.in-Given.i) c.next-n.result.left c.next-n.result.reads) _
     c.loop-r.invariant.same (rw c.in-Given.is at c.next-n.ensures.result_value) (grind arith)
 
 pub loop-r-smaller : goal.loop-r-smaller
@@ -46,7 +49,8 @@ loop-r-preserved c =
     let e = rw c.in-Given.is at c.next-n.ensures.result_value in
     let d = next_lower _ _ _ _ _ _ c.in-Given.i e in
     record {
-      same = again _ _ _ _ (going c.loop-r.at c.loop-r.reads) _ (leaves (gives c.in-Given.i) c.next-n.result.left c.next-n.result.reads)
+      same = again _ _ _ _ (going c.loop-r.at c.loop-r.reads) _
+          (leaves (gives c.in-Given.i) c.next-n.result.left c.next-n.result.reads)
           c.loop-r.invariant.same e (grind arith);
       lies = next_held _ _ _ _ _ _ _ e c.requires.small c.loop-r.invariant.lies;
       few = omega arith;
@@ -55,5 +59,6 @@ loop-r-preserved c =
 pub returns-else-known_type : goal.returns-else-known_type
 unfolding first_after
 returns-else-known_type c =
-    returned _ _ _ _ (going c.loop-r.at c.loop-r.reads) (leaves (gives c.in-Given.i) c.next-n.result.left c.next-n.result.reads) _
+    returned _ _ _ _ (going c.loop-r.at c.loop-r.reads)
+    (leaves (gives c.in-Given.i) c.next-n.result.left c.next-n.result.reads) _
     c.loop-r.invariant.same (rw c.in-Given.is at c.next-n.ensures.result_value) (grind arith)

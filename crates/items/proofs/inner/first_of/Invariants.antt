@@ -1,4 +1,4 @@
--- What is first from where the loop stands is what is first from fresh. Each item lowers the measure, which pays for the reads.
+-- What is first from the loop's state is what is first from fresh. Each item lowers the measure, which pays for reads.
 use Rattle.std.specs.Prelude.{◌≡◌, ◌+◌, ◌*◌, ◌≤◌, length}
 use Rattle.table.specs.Held.{record_of}
 use Rattle.turns.specs.State.{Lies}
@@ -8,7 +8,8 @@ use Rattle.items.proofs.inner.first_of.Given as goal
 
 abbrev pub invariant-loop-r : goal.invariant-loop-r
 invariant-loop-r l = record {
-  same : first_in l.base l.number (record_of l.t) l.ty ≡ first_walk l.base l.number (record_of l.t) l.ty (going l.at l.reads);
+  same : first_in l.base l.number (record_of l.t) l.ty
+      ≡ first_walk l.base l.number (record_of l.t) l.ty (going l.at l.reads);
   lies : Lies (length l.base) l.at.list;
   few : l.reads + most_reads * measure l.base l.at ≤ most_reads * 12289;
 }

@@ -14,7 +14,8 @@ overflow_add-reads c =
 
 pub loop-answer-smaller : goal.loop-answer-smaller
 loop-answer-smaller c =
-    sinks _ _ _ (going c.loop-answer.at c.loop-answer.reads) _ _ (rw c.in-Pass.is at (sym c.small_step-m.ensures.result_value))
+    sinks _ _ _ (going c.loop-answer.at c.loop-answer.reads) _ _
+    (rw c.in-Pass.is at (sym c.small_step-m.ensures.result_value))
 
 pub loop-answer-preserved : goal.loop-answer-preserved
 loop-answer-preserved c =

@@ -1,4 +1,4 @@
--- What the walk gives from where the loop stands is what it gives from the start. Each turn is a small step, which lowers the measure.
+-- What the walk gives from the loop's state is what it gives from the start. Each small step lowers the measure.
 use Rattle.table.specs.Held.{record_of}
 use Rattle.items.specs.Items.{going, measure}
 use Rattle.items.proofs.Kept.{Kept}
