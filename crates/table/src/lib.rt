@@ -64,25 +64,12 @@ fn good_numbers(m: usize, h: Numbers) -> bool
     let directory = h.directory as usize;
     let records = h.records as usize;
     let base = h.base as usize;
-    if 4096 < count {
-        return false;
-    }
-    if good_length(size) {
-        if directory < 20 {
-            return false;
-        }
-        if records < directory + inner::WIDTH * count {
-            return false;
-        }
-        if m < records {
-            return false;
-        }
-        if count < base {
-            return false;
-        }
-        return true;
-    }
-    false
+    count <= 4096
+        && good_length(size)
+        && 20 <= directory
+        && directory + inner::WIDTH * count <= records
+        && records <= m
+        && base <= count
 }
 
 #[tactic(auto, unfolding(crate::specs::Layout::numbers_at))]
@@ -122,19 +109,7 @@ fn good_row(m: usize, h: Numbers, least: u64, r: Row) -> bool
     let offset = r.offset as usize;
     let records = h.records as usize;
     let size = h.size as usize;
-    if 0x1_0000_0000_0000 <= number {
-        return false;
-    }
-    if number < least {
-        return false;
-    }
-    if offset < records {
-        return false;
-    }
-    if m < offset + size {
-        return false;
-    }
-    true
+    number < 0x1_0000_0000_0000 && least <= number && records <= offset && offset + size <= m
 }
 
 // The rows one after another. A row's number must be above the one before it, so `least` is that number and one more.
