@@ -93,28 +93,34 @@ pub fn find(
     let mut at = fields::first_attribute(s);
     let mut reads: u64 = 0;
     loop {
-        let got = step(s, number, at);
-        match got {
+        match step(s, number, at) {
             RawStep::End => {
-                let answer = no_attribute(18, base, entry);
-                return Found { answer, reads };
+                return Found {
+                    answer: no_attribute(18, base, entry),
+                    reads,
+                };
             }
             RawStep::Refused(r) => {
-                let answer = Checked::Refused(r);
-                return Found { answer, reads };
+                return Found {
+                    answer: Checked::Refused(r),
+                    reads,
+                };
             }
             RawStep::Given(h) => {
                 reads += 1;
-                if fields::known_type(h.ty) {
-                    if is_it(h, ty, instance) {
-                        let answer = Checked::Given(h);
-                        return Found { answer, reads };
-                    }
-                    at += h.length;
-                } else {
-                    let answer = no_attribute(6, number, at);
-                    return Found { answer, reads };
+                if !fields::known_type(h.ty) {
+                    return Found {
+                        answer: no_attribute(6, number, at),
+                        reads,
+                    };
                 }
+                if is_it(h, ty, instance) {
+                    return Found {
+                        answer: Checked::Given(h),
+                        reads,
+                    };
+                }
+                at += h.length;
             }
         }
     }
