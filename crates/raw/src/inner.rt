@@ -41,10 +41,7 @@ fn no_attribute(n: u8, number: RecordNumber, place: usize) -> Checked
 pub fn checked_at(s: &[u8], number: RecordNumber, at: usize) -> Checked
     ensures { told_checked result ≡ checked_at s.now number at }
 {
-    if s.len() < at {
-        return no_attribute(3, number, at);
-    }
-    let left = s.len() - at;
+    let left = s.len().saturating_sub(at);
     if left < 16 {
         return no_attribute(3, number, at);
     }
@@ -63,17 +60,13 @@ pub fn checked_at(s: &[u8], number: RecordNumber, at: usize) -> Checked
 pub fn step(s: &[u8], number: RecordNumber, at: usize) -> RawStep
     ensures { told_step result ≡ step_at s.now number at }
 {
-    if s.len() < at {
-        return RawStep::End;
-    }
-    if s.len() - at < 4 {
+    if s.len().saturating_sub(at) < 4 {
         return RawStep::End;
     }
     if u32_at(s, at) == 0xFFFF_FFFF {
         return RawStep::End;
     }
-    let a = checked_at(s, number, at);
-    match a {
+    match checked_at(s, number, at) {
         Checked::Refused(r) => RawStep::Refused(r),
         Checked::Given(h) => RawStep::Given(h),
     }
@@ -83,10 +76,7 @@ pub fn step(s: &[u8], number: RecordNumber, at: usize) -> RawStep
 fn is_it(h: Attribute, ty: u32, instance: u16) -> bool
     ensures { result ≡ is_it h ty instance }
 {
-    if h.ty == ty {
-        return h.instance == instance;
-    }
-    false
+    h.ty == ty && h.instance == instance
 }
 
 // The first attribute, in raw order, of a type and an instance. Where there is none: 18, in the record and at the place that the caller blames.
@@ -103,28 +93,34 @@ pub fn find(
     let mut at = fields::first_attribute(s);
     let mut reads: u64 = 0;
     loop {
-        let got = step(s, number, at);
-        match got {
+        match step(s, number, at) {
             RawStep::End => {
-                let answer = no_attribute(18, base, entry);
-                return Found { answer, reads };
+                return Found {
+                    answer: no_attribute(18, base, entry),
+                    reads,
+                };
             }
             RawStep::Refused(r) => {
-                let answer = Checked::Refused(r);
-                return Found { answer, reads };
+                return Found {
+                    answer: Checked::Refused(r),
+                    reads,
+                };
             }
             RawStep::Given(h) => {
                 reads += 1;
-                if fields::known_type(h.ty) {
-                    if is_it(h, ty, instance) {
-                        let answer = Checked::Given(h);
-                        return Found { answer, reads };
-                    }
-                    at += h.length;
-                } else {
-                    let answer = no_attribute(6, number, at);
-                    return Found { answer, reads };
+                if !fields::known_type(h.ty) {
+                    return Found {
+                        answer: no_attribute(6, number, at),
+                        reads,
+                    };
                 }
+                if is_it(h, ty, instance) {
+                    return Found {
+                        answer: Checked::Given(h),
+                        reads,
+                    };
+                }
+                at += h.length;
             }
         }
     }

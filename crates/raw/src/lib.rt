@@ -50,8 +50,7 @@ pub struct Found {
 pub fn step(s: &[u8], number: RecordNumber, at: usize) -> RawStep
     ensures { told_step result ≡ step_of s.now number at }
 {
-    let o = opening(s, number);
-    match o {
+    match opening(s, number) {
         Opened::Refused(r) => RawStep::Refused(r),
         Opened::Passed => inner::step(s, number, at),
     }
@@ -62,8 +61,7 @@ pub fn step(s: &[u8], number: RecordNumber, at: usize) -> RawStep
 pub fn attribute_at(s: &[u8], number: RecordNumber, at: usize) -> Checked
     ensures { told_checked result ≡ attribute_of s.now number at }
 {
-    let o = opening(s, number);
-    match o {
+    match opening(s, number) {
         Opened::Refused(r) => Checked::Refused(r),
         Opened::Passed => inner::checked_at(s, number, at),
     }

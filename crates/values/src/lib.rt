@@ -64,8 +64,7 @@ pub enum Valued {
 pub fn name(s: &[u8], number: RecordNumber, at: usize) -> Spanned
     ensures { told_spanned result ≡ name_of s.now number at }
 {
-    let a = attribute_at(s, number, at);
-    match a {
+    match attribute_at(s, number, at) {
         Checked::Refused(r) => Spanned::Refused(r),
         Checked::Given(h) => inner::name_of(number, h),
     }
@@ -76,8 +75,7 @@ pub fn name(s: &[u8], number: RecordNumber, at: usize) -> Spanned
 pub fn name_view<'a>(s: &'a [u8], number: RecordNumber, at: usize) -> &'a [u8]
     ensures { result.now ≡ view_of s.now (name_of s.now number at) }
 {
-    let p = name(s, number, at);
-    match p {
+    match name(s, number, at) {
         Spanned::Refused(_) => &s[0..0],
         Spanned::At(p) => inner::part(s, p),
     }
@@ -88,8 +86,7 @@ pub fn name_view<'a>(s: &'a [u8], number: RecordNumber, at: usize) -> &'a [u8]
 pub fn full(s: &[u8], number: RecordNumber, at: usize) -> FullHeader
     ensures { told_full result ≡ full_of s.now number at }
 {
-    let a = attribute_at(s, number, at);
-    match a {
+    match attribute_at(s, number, at) {
         Checked::Refused(r) => FullHeader::Refused(r),
         Checked::Given(h) => inner::full_of(s, number, h),
     }
@@ -100,8 +97,7 @@ pub fn full(s: &[u8], number: RecordNumber, at: usize) -> FullHeader
 pub fn value(s: &[u8], number: RecordNumber, at: usize) -> Valued
     ensures { told_valued result ≡ value_of s.now number at }
 {
-    let a = attribute_at(s, number, at);
-    match a {
+    match attribute_at(s, number, at) {
         Checked::Refused(r) => Valued::Refused(r),
         Checked::Given(h) => inner::value_of(s, number, h),
     }
@@ -112,10 +108,8 @@ pub fn value(s: &[u8], number: RecordNumber, at: usize) -> Valued
 pub fn value_view<'a>(s: &'a [u8], number: RecordNumber, at: usize) -> &'a [u8]
     ensures { result.now ≡ view_of s.now (value_span s.now number at) }
 {
-    let v = value(s, number, at);
-    match v {
+    match value(s, number, at) {
         Valued::Refused(_) => &s[0..0],
-        Valued::Resident(p) => inner::part(s, p),
-        Valued::Runs(p, _) => inner::part(s, p),
+        Valued::Resident(p) | Valued::Runs(p, _) => inner::part(s, p),
     }
 }
