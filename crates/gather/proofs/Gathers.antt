@@ -13,8 +13,8 @@ use Rattle.fields.specs.Answer.{Answer, gives}
 use Rattle.fields.specs.declared.RecordNumber.{RecordNumber}
 use Rattle.fields.proofs.Stores.{stored}
 use Rattle.fields.proofs.Cases.{yes, no, eq-y, eq-n}
-use Rattle.values.specs.Value.{Value}
 use Rattle.values.specs.declared.Span.{Span}
+use Rattle.values.specs.declared.ValuePlace.{ValuePlace}
 use Rattle.turns.specs.State.{no_key}
 use Rattle.turns.specs.declared.Item.{Item}
 use Rattle.turns.specs.declared.Rest.{Rest}
@@ -143,13 +143,13 @@ gathered_none s n look l ns e =
     nothing ns = record { count = refl; size = refl; answer = refl; reads = refl; kept = refl }
 
 -- the text of an item's line, from what the calls answered
-pub item-text : (s : List ℕ) (n : RecordNumber) (look : RecordNumber → Option (List ℕ)) (i : Item) {name : Answer Span} {value : Answer Value} {ns : List ℕ} {r : Gathered}
+pub item-text : (s : List ℕ) (n : RecordNumber) (look : RecordNumber → Option (List ℕ)) (i : Item) {name : Answer Span} {value : Answer ValuePlace} {ns : List ℕ} {r : Gathered}
     → name ≡ name_for s n look i → value ≡ value_for s n look i → Gathers (parts_for s n look i) ns r
     → attr_line i (name_text name) (pick i.rest.is (parts_text r.count r.size (told_ended r.answer)) (value_text value)) ≡ item_line s n look i
 unfolding item_line parts_text_of
 item-text s n look i {name} {value} {ns} {r} a b g =
     ap (λ (x : Answer Span). attr_line i (name_text x) (pick i.rest.is (parts_text r.count r.size (told_ended r.answer)) (value_text value))) a
-    ∙ ap (λ (x : Answer Value). attr_line i (name_text (name_for s n look i)) (pick i.rest.is (parts_text r.count r.size (told_ended r.answer)) (value_text x))) b
+    ∙ ap (λ (x : Answer ValuePlace). attr_line i (name_text (name_for s n look i)) (pick i.rest.is (parts_text r.count r.size (told_ended r.answer)) (value_text x))) b
     ∙ ap (λ (x : Text). attr_line i (name_text (name_for s n look i)) (pick i.rest.is x (value_text (value_for s n look i)))) (told-so g)
   where
     told-so : Gathers (parts_for s n look i) ns r → parts_text r.count r.size (told_ended r.answer) ≡ parts_text_of (parts_for s n look i)

@@ -5,8 +5,9 @@ use Rattle.fields.specs.Pick.{pick}
 use Rattle.fields.specs.Answer.{Answer, ◌⟫◌}
 use Rattle.fields.specs.declared.RecordNumber.{RecordNumber}
 use Rattle.values.specs.Name.{name_of}
-use Rattle.values.specs.Value.{Value, value_of}
+use Rattle.values.specs.Value.{value_of}
 use Rattle.values.specs.declared.Span.{Span}
+use Rattle.values.specs.declared.ValuePlace.{ValuePlace}
 use Rattle.lookup.specs.Lookup.{lookup_in}
 use Rattle.turns.specs.declared.Item.{Item}
 use Rattle.parts.specs.Parts as parts
@@ -36,7 +37,7 @@ module _ (s : List ℕ) (n : RecordNumber) (look : RecordNumber → Option (List
   unfoldable pub name_for : Item → Answer Span
   name_for i = record_for i ⟫ λ x. name_of x i.file i.attribute.offset
 
-  unfoldable pub value_for : Item → Answer Value
+  unfoldable pub value_for : Item → Answer ValuePlace
   value_for i = record_for i ⟫ λ x. value_of x i.file i.attribute.offset
 
   -- the item's parts, asked for once; an item without a list has none, and none are read

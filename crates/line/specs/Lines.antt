@@ -2,8 +2,9 @@
 use Rattle.std.specs.Prelude.{ℕ, List, [], ◌∷◌, ◌++◌}
 use Rattle.fields.specs.Answer.{Answer, gives, ends, refuses}
 use Rattle.fields.specs.declared.RecordNumber.{RecordNumber}
-use Rattle.values.specs.Value.{Value, in_record, in_runs}
 use Rattle.values.specs.declared.Span.{Span}
+use Rattle.values.specs.declared.ValuePlace.{ValuePlace}
+use Rattle.values.specs.declared.ValuePlace.TheVariants as place
 use Rattle.turns.specs.declared.Item.{Item}
 use Rattle.part.specs.declared.Part.{Part}
 use Rattle.text.specs.Words.{told}
@@ -26,9 +27,9 @@ name_text ends = []
 name_text (refuses r) = told " name refused" (r.number ∷ [])
 
 -- `value resident OFFSET BYTES`, `value runs OFFSET BYTES size S`, or `value refused N`; a value call does not end
-unfoldable pub value_text : Answer Value → Text
-value_text (gives (in_record p)) = told " value resident" (p.from ∷ p.bytes ∷ [])
-value_text (gives (in_runs p size)) = told " value runs" (p.from ∷ p.bytes ∷ []) ++ told " size" (size ∷ [])
+unfoldable pub value_text : Answer ValuePlace → Text
+value_text (gives (place.Resident p)) = told " value resident" (p.from ∷ p.bytes ∷ [])
+value_text (gives (place.Runs p size)) = told " value runs" (p.from ∷ p.bytes ∷ []) ++ told " size" (size ∷ [])
 value_text ends = []
 value_text (refuses r) = told " value refused" (r.number ∷ [])
 

@@ -5,8 +5,10 @@ use Rattle.fields.specs.Pick.{pick}
 use Rattle.fields.specs.Answer.{Answer, gives, ends, refuses, refusal, Counted, ◌⟫◌}
 use Rattle.fields.specs.declared.RecordNumber.{RecordNumber}
 use Rattle.raw.specs.Find.{find_of}
-use Rattle.values.specs.Value.{Full, resident, non_resident, full_in, runs_span, span_of}
+use Rattle.values.specs.Value.{full_in, runs_span, span_of}
 use Rattle.raw.specs.declared.Attribute.{Attribute}
+use Rattle.values.specs.declared.FullHeader.{FullHeader}
+use Rattle.values.specs.declared.FullHeader.TheVariants as header
 use Rattle.values.specs.declared.NonResidentHeader.{NonResidentHeader}
 use Rattle.values.specs.declared.Span.{Span}
 use Rattle.list.specs.declared.Entry.{Entry}
@@ -37,9 +39,9 @@ abbrev pub resident_part : Entry → Attribute → Answer Part
 resident_part e h = refuses (refusal 19 e.file h.offset)
 
 -- after 19 and 7: 12, and the part
-unfoldable pub part_after : Entry → Attribute → Full → Answer Part
-part_after e h (resident f) = resident_part e h
-part_after e h (non_resident f) = runs_span e.file h f ⟫ λ v. gives (the_part e h f (span_of v))
+unfoldable pub part_after : Entry → Attribute → FullHeader → Answer Part
+part_after e h (header.Resident f) = resident_part e h
+part_after e h (header.NonResident f) = runs_span e.file h f ⟫ λ v. gives (the_part e h f (span_of v))
 
 -- the attribute found, in the record t: 19, then 7, then 12
 unfoldable pub part_in : List ℕ → Entry → Attribute → Answer Part

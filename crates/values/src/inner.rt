@@ -1,12 +1,12 @@
 // The same without the opening checks, for callers that hold an attribute that passed 3 to 5.
 ghost use Rattle.std.specs.Prelude.{◌≡◌, ◌+◌, ◌≤◌, length};
-ghost use Rattle.fields.specs.Answer.{refuses, refusal};
+ghost use Rattle.fields.specs.Answer.{refuses, refusal, told};
 ghost use Rattle.raw.specs.Attribute.{Inside};
-ghost use Rattle.values.specs.Span.{told_spanned, bytes_at};
+ghost use Rattle.values.specs.Span.{bytes_at};
 ghost use Rattle.values.specs.Name.{name_in};
-ghost use Rattle.values.specs.Value.{told_full, resident_at, non_resident_at, full_in, resident_span, runs_span, told_valued, value_in, list_in};
+ghost use Rattle.values.specs.Value.{resident_at, non_resident_at, full_in, resident_span, runs_span, value_in, list_in};
 
-use crate::{FullHeader, NonResidentHeader, ResidentHeader, Span, Spanned, Valued};
+use crate::{FullHeader, NonResidentHeader, ResidentHeader, Span, ValuePlace};
 use fields::inner::{u16_at, u32_at, u64_at};
 use fields::{RecordNumber, Refusal, Vcn};
 use raw::Attribute;
@@ -20,10 +20,10 @@ pub fn part<'a>(s: &'a [u8], p: Span) -> &'a [u8]
     &s[p.from..p.from + p.bytes]
 }
 
-fn no_span(n: u8, number: RecordNumber, place: usize) -> Spanned
-    ensures { told_spanned result ≡ refuses (refusal n number place) }
+fn no_span(n: u8, number: RecordNumber, place: usize) -> Result<Span, Refusal>
+    ensures { told result ≡ refuses (refusal n number place) }
 {
-    Spanned::Refused(Refusal {
+    Err(Refusal {
         number: n,
         file: number,
         place,
@@ -32,14 +32,14 @@ fn no_span(n: u8, number: RecordNumber, place: usize) -> Spanned
 
 // Where an attribute's name stands: 8, then 9.
 #[tactic(auto, unfolding(crate::specs::Name::name_in))]
-pub fn name_of(number: RecordNumber, h: Attribute) -> Spanned
+pub fn name_of(number: RecordNumber, h: Attribute) -> Result<Span, Refusal>
     requires { h.offset + h.length ≤ 4096 }
-    ensures { told_spanned result ≡ name_in number h }
+    ensures { told result ≡ name_in number h }
 {
     let name = h.name as usize;
     let bytes = 2 * (h.units as usize);
     if name == 0 || bytes == 0 {
-        return Spanned::At(Span { from: 0, bytes: 0 });
+        return Ok(Span { from: 0, bytes: 0 });
     }
     if h.length <= name {
         return no_span(8, number, h.offset);
@@ -47,7 +47,7 @@ pub fn name_of(number: RecordNumber, h: Attribute) -> Spanned
     if h.length < name + bytes {
         return no_span(9, number, h.offset);
     }
-    Spanned::At(Span {
+    Ok(Span {
         from: h.offset + name,
         bytes,
     })
@@ -79,10 +79,10 @@ fn read_non_resident(s: &[u8], at: usize) -> NonResidentHeader
     }
 }
 
-fn too_short(number: RecordNumber, h: Attribute) -> FullHeader
-    ensures { told_full result ≡ refuses (refusal 7 number h.offset) }
+fn too_short(number: RecordNumber, h: Attribute) -> Result<FullHeader, Refusal>
+    ensures { told result ≡ refuses (refusal 7 number h.offset) }
 {
-    FullHeader::Refused(Refusal {
+    Err(Refusal {
         number: 7,
         file: number,
         place: h.offset,
@@ -91,28 +91,28 @@ fn too_short(number: RecordNumber, h: Attribute) -> FullHeader
 
 // An attribute's full header: 7.
 #[tactic(auto, unfolding(crate::specs::Value::full_in))]
-pub fn full_of(s: &[u8], number: RecordNumber, h: Attribute) -> FullHeader
+pub fn full_of(s: &[u8], number: RecordNumber, h: Attribute) -> Result<FullHeader, Refusal>
     requires { Inside s.now h }
-    ensures { told_full result ≡ full_in s.now number h }
+    ensures { told result ≡ full_in s.now number h }
 {
     let at = h.offset;
     if h.resident {
         if h.length < 24 {
             return too_short(number, h);
         }
-        return FullHeader::Resident(read_resident(s, at));
+        return Ok(FullHeader::Resident(read_resident(s, at)));
     }
     if h.length < 64 {
         return too_short(number, h);
     }
-    FullHeader::NonResident(read_non_resident(s, at))
+    Ok(FullHeader::NonResident(read_non_resident(s, at)))
 }
 
 // Where a resident value stands: 10, then 11.
 #[tactic(auto, unfolding(crate::specs::Value::resident_span))]
-fn resident_span(number: RecordNumber, h: Attribute, f: ResidentHeader) -> Spanned
+fn resident_span(number: RecordNumber, h: Attribute, f: ResidentHeader) -> Result<Span, Refusal>
     requires { h.offset + h.length ≤ 4096 }
-    ensures { told_spanned result ≡ resident_span number h f }
+    ensures { told result ≡ resident_span number h f }
 {
     let value = f.value as usize;
     let bytes = f.bytes as usize;
@@ -122,7 +122,7 @@ fn resident_span(number: RecordNumber, h: Attribute, f: ResidentHeader) -> Spann
     if h.length < value + bytes {
         return no_span(11, number, h.offset);
     }
-    Spanned::At(Span {
+    Ok(Span {
         from: h.offset + value,
         bytes,
     })
@@ -130,51 +130,46 @@ fn resident_span(number: RecordNumber, h: Attribute, f: ResidentHeader) -> Spann
 
 // Where the run bytes stand: 12.
 #[tactic(auto, unfolding(crate::specs::Value::runs_span))]
-pub fn runs_span(number: RecordNumber, h: Attribute, f: NonResidentHeader) -> Valued
+pub fn runs_span(number: RecordNumber, h: Attribute, f: NonResidentHeader) -> Result<ValuePlace, Refusal>
     requires { h.offset + h.length ≤ 4096 }
-    ensures { told_valued result ≡ runs_span number h f }
+    ensures { told result ≡ runs_span number h f }
 {
     let runs = f.runs as usize;
     if h.length < runs {
-        return Valued::Refused(Refusal {
+        return Err(Refusal {
             number: 12,
             file: number,
             place: h.offset,
         });
     }
-    Valued::Runs(
+    Ok(ValuePlace::Runs(
         Span {
             from: h.offset + runs,
             bytes: h.length - runs,
         },
         f.size,
-    )
+    ))
 }
 
 // Where an attribute's value stands: 7, then 10 and 11, or 12.
 #[tactic(auto, unfolding(crate::specs::Value::value_in, crate::specs::Value::value_after))]
-pub fn value_of(s: &[u8], number: RecordNumber, h: Attribute) -> Valued
+pub fn value_of(s: &[u8], number: RecordNumber, h: Attribute) -> Result<ValuePlace, Refusal>
     requires { Inside s.now h }
-    ensures { told_valued result ≡ value_in s.now number h }
+    ensures { told result ≡ value_in s.now number h }
 {
-    match full_of(s, number, h) {
-        FullHeader::Refused(r) => Valued::Refused(r),
+    match full_of(s, number, h)? {
         FullHeader::NonResident(f) => runs_span(number, h, f),
-        FullHeader::Resident(f) => match resident_span(number, h, f) {
-            Spanned::Refused(r) => Valued::Refused(r),
-            Spanned::At(p) => Valued::Resident(p),
-        },
+        FullHeader::Resident(f) => Ok(ValuePlace::Resident(resident_span(number, h, f)?)),
     }
 }
 
 // Where the list of an attribute that holds one stands: 7, then 10 and 11, or 13.
 #[tactic(auto, unfolding(crate::specs::Value::list_in, crate::specs::Value::list_after))]
-pub fn list_of(s: &[u8], number: RecordNumber, h: Attribute) -> Spanned
+pub fn list_of(s: &[u8], number: RecordNumber, h: Attribute) -> Result<Span, Refusal>
     requires { Inside s.now h }
-    ensures { told_spanned result ≡ list_in s.now number h }
+    ensures { told result ≡ list_in s.now number h }
 {
-    match full_of(s, number, h) {
-        FullHeader::Refused(r) => Spanned::Refused(r),
+    match full_of(s, number, h)? {
         FullHeader::NonResident(_) => no_span(13, number, h.offset),
         FullHeader::Resident(f) => resident_span(number, h, f),
     }
