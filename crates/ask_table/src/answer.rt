@@ -3,7 +3,7 @@ use fields::RecordNumber;
 use fields::inner::u32_at;
 use list::{Entry, EntryStep};
 use lookup::Looked;
-use table::{Numbers, RowFound, Tested};
+use table::{TableHeader, RowFound, Tested};
 use words::{say, tell, tell_bytes, tell_one, tell_refused};
 
 fn put_entry(e: Entry, last: u8) {
@@ -59,7 +59,7 @@ pub fn tell_base_row(t: &[u8]) {
     if t.len() < 20 {
         return;
     }
-    let h = Numbers {
+    let h = TableHeader {
         count: u32_at(t, 0),
         size: u32_at(t, 4),
         directory: u32_at(t, 8),
@@ -69,7 +69,7 @@ pub fn tell_base_row(t: &[u8]) {
     put_row(table::base_row(h))
 }
 
-fn put_numbers(h: Numbers) {
+fn put_numbers(h: TableHeader) {
     tell(
         b"table",
         [

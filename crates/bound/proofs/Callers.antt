@@ -14,7 +14,7 @@ use Rattle.fields.proofs.Cases.{yes, no}
 use Rattle.fields.proofs.Answers.{ended-given, refused-given}
 use Rattle.table.specs.Check.{open_table}
 use Rattle.table.specs.Held.{record_of}
-use Rattle.table.specs.declared.Numbers.{Numbers}
+use Rattle.table.specs.declared.TableHeader.{TableHeader}
 use Rattle.table.proofs.Sound.{sound, opened}
 use Rattle.turns.specs.State.{Lies}
 use Rattle.items.specs.Start.{fresh_of, inside_of}
@@ -40,9 +40,9 @@ lies-inside s n l h = by-list l.is refl
 
 module _ (s : List ℕ) (n : RecordNumber) (t : List ℕ) where
   -- behind the opening checks, and with a list inside the record, the calls are the walk's
-  module _ (h : Numbers) (o : open_table s n t ≡ gives h) where
+  module _ (h : TableHeader) (o : open_table s n t ≡ gives h) where
     passes : (l : Rest) → Lies (length s) l → (open_table s n t ⟫ λ _. inside_of s n l) ≡ gives tt
-    passes l y = ap (λ (a : Answer Numbers). a ⟫ λ _. inside_of s n l) o ∙ lies-inside s n l y
+    passes l y = ap (λ (a : Answer TableHeader). a ⟫ λ _. inside_of s n l) o ∙ lies-inside s n l y
 
     next-is : (w : State) → Lies (length s) w.list → next_of s n t w ≡ next_in s n (record_of t) w
     unfolding next_of next_after
@@ -63,7 +63,7 @@ module _ (s : List ℕ) (n : RecordNumber) (t : List ℕ) where
       item : (w : State) (i : Item) (c : ℕ) → (next_of s n t w).answer ≡ gives i → Calls (next_of s n t w).left c
           → Calls w ((next_of s n t w).reads + (parts_of s n t room i.rest).reads + c)
 
-    calls_count : (h : Numbers) → open_table s n t ≡ gives h → (k : ℕ) {w : State} {c : ℕ} → Lies (length s) w.list → Calls w c → k + c ≡ count_from s n (record_of t) room k w
+    calls_count : (h : TableHeader) → open_table s n t ≡ gives h → (k : ℕ) {w : State} {c : ℕ} → Lies (length s) w.list → Calls w c → k + c ≡ count_from s n (record_of t) room k w
     calls_count h o k y (end w e) =
         let q = next-is h o w y in
         ap (λ (l : Left). k + l.reads) q ∙ sym (count-end s n (record_of t) room k w (sym (ap (λ (l : Left). l.answer) q) ∙ e))
@@ -87,7 +87,7 @@ module _ (s : List ℕ) (n : RecordNumber) (t : List ℕ) where
     fresh-lies = no-list-lies s
 
     -- behind the opening checks it is the count of the third demand
-    pub calls-counted : (h : Numbers) → open_table s n t ≡ gives h → (c : ℕ) → Calls (fresh_of s) c → c ≡ count_of s n (record_of t) room
+    pub calls-counted : (h : TableHeader) → open_table s n t ≡ gives h → (c : ℕ) → Calls (fresh_of s) c → c ≡ count_of s n (record_of t) room
     unfolding count_of
     calls-counted h o c l = let e = calls_count h o 0 fresh-lies l in omega (arith, e)
 
@@ -97,15 +97,15 @@ module _ (s : List ℕ) (n : RecordNumber) (t : List ℕ) where
     none_read x f q (refusal w r e) = ap (λ (l : Left). l.reads) q
     none_read x f q (item w i d e rest) = absurd (f i (sym (ap (λ (l : Left). l.answer) q) ∙ e))
 
-    refused-opening : (a : Answer Numbers) (w : State) → open_table s n t ≡ a → next_of s n t w ≡ next_after s n t w (a ⟫ λ _. inside_of s n w.list)
+    refused-opening : (a : Answer TableHeader) (w : State) → open_table s n t ≡ a → next_of s n t w ≡ next_after s n t w (a ⟫ λ _. inside_of s n w.list)
     unfolding next_of
-    refused-opening a w e = ap (λ (x : Answer Numbers). next_after s n t w (x ⟫ λ _. inside_of s n w.list)) e
+    refused-opening a w e = ap (λ (x : Answer TableHeader). next_after s n t w (x ⟫ λ _. inside_of s n w.list)) e
 
     -- a + 3e + 2ea at most
     abbrev pub Few : ℕ → Type 0
     Few c = c ≤ length s / 16 + 3 * (length s / 26) + 2 * (length s / 26 * (length s / 16))
 
-    bounded-by : (a : Answer Numbers) → open_table s n t ≡ a → (c : ℕ) → Calls (fresh_of s) c → Few c
+    bounded-by : (a : Answer TableHeader) → open_table s n t ≡ a → (c : ℕ) → Calls (fresh_of s) c → Few c
     unfolding next_after
     bounded-by (gives h) e c l = subst Few (sym (calls-counted h e c l)) (third_of s n t h room e).bound
     bounded-by ends e c l = subst Few (sym (none_read ends (λ i q. ended-given q) (refused-opening ends (fresh_of s) e) l)) zero-le

@@ -4,7 +4,7 @@ use mathlib.Core.Path.{◌≡◌, refl, subst}
 use mathlib.Core.Logic.{⊎_elim}
 use mathlib.Core.Bool.{Bool, true, false}
 use mathlib.Core.List.{List}
-use mathlib.Core.Option.{Option, some}
+use Rattle.std.specs.Prelude.{Option, Some}
 use native.Mathlib.Nat.{le_refl}
 use native.Mathlib.Omega.{arith}
 use lib.ListN.{length}
@@ -28,7 +28,7 @@ use Rattle.turns.proofs.Turns.{entry-inside}
 
 -- no record that is looked up is longer than the base record
 abbrev pub Sized : List ℕ → (RecordNumber → Option (List ℕ)) → Type 0
-Sized s look = (w : RecordNumber) (b : List ℕ) → look w ≡ some b → length b ≤ length s
+Sized s look = (w : RecordNumber) (b : List ℕ) → look w ≡ Some b → length b ≤ length s
 
 module _ (s : List ℕ) (n : RecordNumber) (look : RecordNumber → Option (List ℕ)) (z : Sized s look) where
   looked-sized : (w : RecordNumber) (at : ℕ) (t : List ℕ) → lookup_in s n look w at ≡ gives t → length t ≤ length s

@@ -3,7 +3,7 @@ use Prim.Native.Nat.{ℕ, zero, suc, ◌+◌, ◌*◌, ◌/◌, ◌≤◌, ◌<�
 use mathlib.Core.Path.{◌≡◌, refl}
 use mathlib.Core.Logic.{◌⊎◌, inl, inr}
 use mathlib.Core.List.{List, [], ◌∷◌, ◌++◌}
-use mathlib.Core.Option.{Option, none, some}
+use Rattle.std.specs.Prelude.{Option, Some, None}
 use native.Mathlib.Nat.{not-suc-le-zero, lt-suc_self}
 use native.Mathlib.Omega.{arith}
 use borrow.Author.Tests.{eqb-true}
@@ -16,7 +16,7 @@ use Rattle.fields.proofs.Cases.{both, not-second}
 use Rattle.fields.proofs.Answers.{refused-given}
 use Rattle.table.specs.Check.{table_of}
 use Rattle.table.specs.Held.{Held, record_of, base_of}
-use Rattle.table.specs.declared.Numbers.{Numbers}
+use Rattle.table.specs.declared.TableHeader.{TableHeader}
 use Rattle.items.specs.Start.{fresh_of}
 use Rattle.items.specs.Items.{measure, next_in}
 use Rattle.turns.specs.declared.State.{State}
@@ -74,7 +74,7 @@ open-sure : (s : List ℕ) (n : RecordNumber) (size : ℕ) → Sure (open_in s n
 unfolding open_in open_of check_file
 open-sure s n size = both Sure (eqb (length s) size) _ _ (both Sure (good_length (length s)) _ _ (both Sure (is_file s) _ _ tt tt) tt) tt
 
-module _ (t : List ℕ) (h : Numbers) (q : table_of t ≡ gives h) (b : Held) where
+module _ (t : List ℕ) (h : TableHeader) (q : table_of t ≡ gives h) (b : Held) where
   fits : {u : Unit} → open_in b.bytes b.number h.size ≡ gives u → length b.bytes ≡ h.size
   unfolding open_in
   fits e = eqb-true _ _ (not-second (eqb (length b.bytes) h.size) _ _ _ e refused-given).0
@@ -92,14 +92,14 @@ module _ (t : List ℕ) (h : Numbers) (q : table_of t ≡ gives h) (b : Held) wh
 
 -- a listing says that the table is refused, or tells such a count of the table's base record
 abbrev pub Listed : List ℕ → List Text → Type 0
-Listed t l = (l ≡ table_refused) ⊎ ((b : Held) × (base_of t ≡ some b) × Tells b.bytes l)
+Listed t l = (l ≡ table_refused) ⊎ ((b : Held) × (base_of t ≡ Some b) × Tells b.bytes l)
 
-base-listed : (t : List ℕ) (h : Numbers) → table_of t ≡ gives h → (o : Option Held) → base_of t ≡ o → Listed t (base_lines t h o)
+base-listed : (t : List ℕ) (h : TableHeader) → table_of t ≡ gives h → (o : Option Held) → base_of t ≡ o → Listed t (base_lines t h o)
 unfolding base_lines
-base-listed t h q (some b) e = inr (b, e, opened-tells t h q b _ _ refl (open-sure b.bytes b.number h.size))
-base-listed t h q none e = inl refl
+base-listed t h q (Some b) e = inr (b, e, opened-tells t h q b _ _ refl (open-sure b.bytes b.number h.size))
+base-listed t h q None e = inl refl
 
-checked-listed : (t : List ℕ) (a : Answer Numbers) → table_of t ≡ a → Listed t (checked_lines t a)
+checked-listed : (t : List ℕ) (a : Answer TableHeader) → table_of t ≡ a → Listed t (checked_lines t a)
 unfolding checked_lines
 checked-listed t (gives h) e = base-listed t h e (base_of t) refl
 checked-listed t ends e = inl refl

@@ -2,7 +2,7 @@
 use Prim.Native.Nat.{ℕ, ◌+◌, ◌*◌, ◌/◌, ◌≤◌}
 use mathlib.Core.Path.{◌≡◌, subst}
 use mathlib.Core.List.{List}
-use mathlib.Core.Option.{Option}
+use Rattle.std.specs.Prelude.{Option}
 use native.Mathlib.Omega.{arith}
 use lib.ListN.{length}
 use Rattle.fields.specs.Answer.{gives}
@@ -10,7 +10,7 @@ use Rattle.fields.specs.Header.{first_attribute}
 use Rattle.fields.specs.declared.RecordNumber.{RecordNumber}
 use Rattle.table.specs.Check.{table_of, open_table}
 use Rattle.table.specs.Held.{record_of}
-use Rattle.table.specs.declared.Numbers.{Numbers}
+use Rattle.table.specs.declared.TableHeader.{TableHeader}
 use Rattle.table.proofs.Sound.{sound, opened}
 use Rattle.table.proofs.Holds.{record-sized}
 use Rattle.turns.specs.declared.Rest.{Rest}
@@ -57,11 +57,11 @@ module _ (s : List ℕ) (n : RecordNumber) (look : RecordNumber → Option (List
   }
 
 -- the records of a table are as long as the base record that it is asked with
-pub table-sized : (s t : List ℕ) (h : Numbers) → table_of t ≡ gives h → length s ≡ h.size → Sized s (record_of t)
+pub table-sized : (s t : List ℕ) (h : TableHeader) → table_of t ≡ gives h → length s ≡ h.size → Sized s (record_of t)
 table-sized s t h e l w b g = omega (arith, record-sized (sound t h e) w b g)
 
 -- so behind the opening checks the third demand holds of every base record and table
-pub third_of : (s : List ℕ) (n : RecordNumber) (t : List ℕ) (h : Numbers) (room : ℕ) → open_table s n t ≡ gives h → Third s n (record_of t) room
+pub third_of : (s : List ℕ) (n : RecordNumber) (t : List ℕ) (h : TableHeader) (room : ℕ) → open_table s n t ≡ gives h → Third s n (record_of t) room
 third_of s n t h room e = let o = opened s n t h e in third s n (record_of t) room (table-sized s t h o.table o.fits)
 
 -- for a record of 1,024 bytes, by computation

@@ -26,7 +26,7 @@ told-read (Err r) = refl
 pub told-settled : {A : Type 0} {r t : Result A Refusal} {a : Answer A} → told r ≡ a → told t ≡ a → r ≡ t
 told-settled p q = settled told (read_back Ok (Err nothing) Err) told-read p q
 
-step-read : {A : Type 0} (r : Result (Option A) Refusal) → read_back (λ (x : A). Ok (Some x)) (Ok None) Err (told_step r) ≡ r
+pub step-read : {A : Type 0} (r : Result (Option A) Refusal) → read_back (λ (x : A). Ok (Some x)) (Ok None) Err (told_step r) ≡ r
 step-read (Ok (Some x)) = refl
 step-read (Ok None) = refl
 step-read (Err r) = refl

@@ -16,7 +16,7 @@ use line::Gathered;
 use lookup::Placed;
 use part::Part;
 use parts::{Cursor, Ended, PartKind};
-use table::Numbers;
+use table::TableHeader;
 use turns::{Item, Rest};
 use values::{Spanned, Valued};
 
@@ -32,7 +32,7 @@ fn contents_of<'a>(
     base: &'a [u8],
     number: RecordNumber,
     t: &'a [u8],
-    h: Numbers,
+    h: TableHeader,
     i: Item,
 ) -> Contents
     requires { Ready base.now t.now h }
@@ -89,7 +89,7 @@ fn gather<'a>(
     base: &'a [u8],
     number: RecordNumber,
     t: &'a [u8],
-    h: Numbers,
+    h: TableHeader,
     l: Rest,
     numbers: &mut [u64],
 ) -> Gathered
@@ -134,7 +134,7 @@ fn gathered<'a>(
     base: &'a [u8],
     number: RecordNumber,
     t: &'a [u8],
-    h: Numbers,
+    h: TableHeader,
     l: Rest,
     numbers: &mut [u64],
 ) -> Gathered
@@ -161,7 +161,7 @@ pub fn item_line<'a>(
     base: &'a [u8],
     number: RecordNumber,
     t: &'a [u8],
-    h: Numbers,
+    h: TableHeader,
     i: Item,
     numbers: &mut [u64],
     out: &mut [u8],

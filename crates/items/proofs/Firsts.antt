@@ -3,7 +3,7 @@ use Prim.Native.Nat.{ℕ, ◌+◌, ◌≤◌, ◌<◌}
 use mathlib.Core.Path.{◌≡◌, refl, sym, ap, ◌∙◌, subst}
 use mathlib.Core.Bool.{Bool, true}
 use mathlib.Core.List.{List}
-use mathlib.Core.Option.{Option}
+use Rattle.std.specs.Prelude.{Option}
 use native.Mathlib.Omega.{arith}
 use Rattle.std.proofs.lemmas.Bool.Decides.{nat_tests}
 use borrow.Author.Tests.{ltb-false}
@@ -18,7 +18,7 @@ use Rattle.fields.proofs.Cases.{not_first, not-second}
 use Rattle.fields.proofs.Answers.{refused-given}
 use Rattle.fields.proofs.Walks.{Falls, on-stop, on_go, stop-go, the-go}
 use Rattle.table.specs.Held.{record_of}
-use Rattle.table.specs.declared.Numbers.{Numbers}
+use Rattle.table.specs.declared.TableHeader.{TableHeader}
 use Rattle.table.specs.Check.{open_table}
 use Rattle.table.proofs.Sound.{opened}
 use Rattle.fields.proofs.Opens.{opened_sized}
@@ -71,7 +71,7 @@ module _ (s : List ℕ) (n : RecordNumber) (look : RecordNumber → Option (List
       i ∙ on_go left (first_turn s n look ty) none falls g k (sym h ∙ ap (first_from s n look ty g.reads) e)
 
 -- the opening checks show what a caller of the walk must know of the record and the table
-pub ready_of : (s : List ℕ) (n : RecordNumber) (t : List ℕ) (h : Numbers) → gives h ≡ open_table s n t → Ready s t h
+pub ready_of : (s : List ℕ) (n : RecordNumber) (t : List ℕ) (h : TableHeader) → gives h ≡ open_table s n t → Ready s t h
 ready_of s n t h e =
     let o = opened s n t h (sym e) in
     record { sound = o.table; small = (opened_sized s n o.passed).most }

@@ -1,6 +1,5 @@
 -- 01, "First of a type": "takes items from fresh until one fits".
-use Rattle.std.specs.Prelude.{ℕ, ◌+◌, List, eqb}
-use Rattle.std.proofs.Math.Option.{Option}
+use Rattle.std.specs.Prelude.{ℕ, ◌+◌, List, eqb, Option}
 use Rattle.fields.specs.Pick.{pick}
 use Rattle.fields.specs.Answer.{Answer, gives, ends, refuses, refusal, Counted}
 use Rattle.fields.specs.Known.{known_type}
@@ -8,7 +7,7 @@ use Rattle.fields.specs.Walk as walks
 use Rattle.fields.specs.declared.RecordNumber.{RecordNumber}
 use Rattle.table.specs.Check.{open_table}
 use Rattle.table.specs.Held.{record_of}
-use Rattle.table.specs.declared.Numbers.{Numbers}
+use Rattle.table.specs.declared.TableHeader.{TableHeader}
 use Rattle.items.specs.Start.{fresh_of}
 use Rattle.items.specs.Items.{Left, Going, going, measure, next_in}
 use Rattle.turns.specs.declared.Item.{Item}
@@ -50,7 +49,7 @@ module _ (s : List ℕ) (n : RecordNumber) (look : RecordNumber → Option (List
   first_in = first_walk (going (fresh_of s) 0)
 
 -- behind 21, 1 and 2
-unfoldable pub first_after_opening : List ℕ → RecordNumber → List ℕ → ℕ → Answer Numbers → Counted Item
+unfoldable pub first_after_opening : List ℕ → RecordNumber → List ℕ → ℕ → Answer TableHeader → Counted Item
 first_after_opening s n t ty (gives h) = first_in s n (record_of t) ty
 first_after_opening s n t ty ends = counted_item ends 0
 first_after_opening s n t ty (refuses r) = counted_item (refuses r) 0

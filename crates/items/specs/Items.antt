@@ -1,6 +1,5 @@
 -- 01, "Items": "One call passes over lists and entries until it has an item, an end or a refusal", by small steps.
-use Rattle.std.specs.Prelude.{ℕ, suc, ◌+◌, ◌-◌, ◌*◌, List, length}
-use Rattle.std.proofs.Math.Option.{Option}
+use Rattle.std.specs.Prelude.{ℕ, suc, ◌+◌, ◌-◌, ◌*◌, List, length, Option}
 use Rattle.fields.specs.Pick.{pick}
 use Rattle.fields.specs.Answer.{Answer, gives, ends, refuses, ◌⟫◌}
 use Rattle.fields.specs.Walk as walks

@@ -9,13 +9,13 @@ ghost use Rattle.items.specs.Items.{small_step, told_next, most_reads, next_in};
 
 use crate::{First, FirstItem, Walked};
 use fields::{RecordNumber, Refusal, known_type};
-use table::Numbers;
+use table::TableHeader;
 use turns::inner::{entry_turn, raw_turn};
 use turns::{ItemStep, Kind, State, Turn};
 
 // One small step: an entry of the open list, else a raw attribute.
 #[tactic(auto, unfolding(crate::specs::Items::small_step))]
-fn small_step<'a>(base: &'a [u8], number: RecordNumber, t: &'a [u8], h: Numbers, w: State) -> Turn
+fn small_step<'a>(base: &'a [u8], number: RecordNumber, t: &'a [u8], h: TableHeader, w: State) -> Turn
     requires ready { Ready base.now t.now h }
     requires lies { Lies (length base.now) w.list }
     ensures result_value { told_turn result ≡ small_step base.now number (record_of t.now) w }
@@ -28,7 +28,7 @@ fn small_step<'a>(base: &'a [u8], number: RecordNumber, t: &'a [u8], h: Numbers,
 }
 
 // The walk's next answer: small steps until one answers. The state may be any whose list lies inside the record.
-pub fn next<'a>(base: &'a [u8], number: RecordNumber, t: &'a [u8], h: Numbers, w: State) -> Walked
+pub fn next<'a>(base: &'a [u8], number: RecordNumber, t: &'a [u8], h: TableHeader, w: State) -> Walked
     requires ready { Ready base.now t.now h }
     requires lies { Lies (length base.now) w.list }
     ensures result_value { told_next result ≡ next_in base.now number (record_of t.now) w }
@@ -61,7 +61,7 @@ pub fn first_refused(r: Refusal, reads: u64) -> First
 }
 
 // The first item of a type, from fresh on: an item of unknown type is 6, the end is 18.
-pub fn first_of<'a>(base: &'a [u8], number: RecordNumber, t: &'a [u8], h: Numbers, ty: u32) -> First
+pub fn first_of<'a>(base: &'a [u8], number: RecordNumber, t: &'a [u8], h: TableHeader, ty: u32) -> First
     requires { Ready base.now t.now h }
     ensures { told_first result ≡ first_in base.now number (record_of t.now) ty }
 {

@@ -11,7 +11,7 @@ use Rattle.fields.specs.Answer.{Answer}
 use Rattle.fields.specs.declared.RecordNumber.{RecordNumber}
 use Rattle.fields.proofs.Cases.{yes, no}
 use Rattle.table.specs.Held.{record_of}
-use Rattle.table.specs.declared.Numbers.{Numbers}
+use Rattle.table.specs.declared.TableHeader.{TableHeader}
 use Rattle.turns.specs.State.{Ready, no_key}
 use Rattle.turns.specs.declared.Rest.{Rest}
 use Rattle.parts.specs.Parts.{told_ended, Stepped, lists, stops, cursor, Listing, listing, step_in, parts_from, parts_of, filled}
@@ -25,7 +25,7 @@ untrue : false ≡ true → ⊥
 untrue e = subst (λ (b : Bool). T b → ⊥) e (λ x. x) tt
 
 -- the same step, said in another way
-pub stepped : {h : Numbers} {k before : ℕ} {x y : Stepped} {w : Standing} → x ≡ y → Stands h k before x w → Stands h k before y w
+pub stepped : {h : TableHeader} {k before : ℕ} {x y : Stepped} {w : Standing} → x ≡ y → Stands h k before x w → Stands h k before y w
 stepped {h} {k} {before} {x} {y} {w} e s = subst (λ (z : Stepped). Stands h k before z w) e s
 
 -- what a standing says of the step that it was made by
@@ -78,7 +78,7 @@ module _ (s : List ℕ) (n : RecordNumber) (t : List ℕ) (l : Rest) (ys : List 
     pub ended : w.go ≡ false → Fills (parts_of s n t (length ys) l) ys zs w.told
 
   -- a step made while the list is being filled
-  module _ (h : Numbers) (zs : List Part) (k before : ℕ) (c : Cursor) (f : Filling s n (record_of t) (length ys) l ys zs k before c)
+  module _ (h : TableHeader) (zs : List Part) (k before : ℕ) (c : Cursor) (f : Filling s n (record_of t) (length ys) l ys zs k before c)
       (ready : Ready s t h) (inside : l.to ≤ length s) (same : parts_from s n (record_of t) (length ys) l ≡ parts_of s n t (length ys) l) where
     stood : (w : Standing) → Stands h k before (step_in s n (record_of t) (length ys) k c) w → Kept (left c) w zs
     stood w x = record {

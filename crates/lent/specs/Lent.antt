@@ -4,7 +4,7 @@ use Rattle.fields.specs.Pick.{pick}
 use Rattle.fields.specs.Answer.{Answer}
 use Rattle.fields.specs.declared.RecordNumber.{RecordNumber}
 use Rattle.table.specs.Held.{record_of}
-use Rattle.table.specs.declared.Numbers.{Numbers}
+use Rattle.table.specs.declared.TableHeader.{TableHeader}
 use Rattle.turns.specs.State.{Ready, no_key}
 use Rattle.turns.specs.declared.Rest.{Rest}
 use Rattle.parts.specs.Parts.{told_ended, Stepped, lists, stops, cursor, Listing, listing, step_in, parts_from, parts_of, filled}
@@ -32,7 +32,7 @@ counted k (lists p c r) = lists p c (k + r)
 counted k (stops a r) = stops a (k + r)
 
 -- where the step x leaves the filling, after k parts for which `before` was read
-pub record Stands (h : Numbers) (k before : ℕ) (x : Stepped) (w : Standing) : Type 0 where
+pub record Stands (h : TableHeader) (k before : ℕ) (x : Stepped) (w : Standing) : Type 0 where
   pub head : w.h ≡ h
   pub count : w.told.count ≡ k
   pub step : told_standing w ≡ counted before x
@@ -55,6 +55,6 @@ pub record Empty (a : Answer Unit) (w : Standing) : Type 0 where
 
 -- how the filling begins: by the first step where the opening checks passed and there is a list, else with its end
 pub data Begins (s : List ℕ) (n : RecordNumber) (t : List ℕ) (room : ℕ) (l : Rest) (w : Standing) : Type 0 where
-  listed : (h : Numbers) → Ready s t h → l.from ≤ l.to → l.to ≤ length s → parts_from s n (record_of t) room l ≡ parts_of s n t room l
+  listed : (h : TableHeader) → Ready s t h → l.from ≤ l.to → l.to ≤ length s → parts_from s n (record_of t) room l ≡ parts_of s n t room l
       → Stands h 0 0 (step_in s n (record_of t) room 0 (cursor l no_key)) w → Begins s n t room l w
   unlisted : (a : Answer Unit) → listing [] a 0 ≡ parts_of s n t room l → Empty a w → Begins s n t room l w

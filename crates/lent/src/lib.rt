@@ -10,7 +10,7 @@ ghost use Rattle.lent.specs.Lent.{Fills, Stands, Onward, Empty, Begins};
 use fields::{Opened, RecordNumber};
 use part::Part;
 use parts::{Collected, Cursor, Ended, PartKind, PartTurn};
-use table::{Numbers, Tested};
+use table::{TableHeader, Tested};
 use turns::Rest;
 
 // What is reported: how many parts were written, how they end, and what was read.
@@ -29,7 +29,7 @@ pub struct Standing {
     pub part: Part,
     pub told: Filled,
     pub at: Cursor,
-    pub h: Numbers,
+    pub h: TableHeader,
 }
 
 // Ended before the first part: there is none to write, and no step behind it.
@@ -40,7 +40,7 @@ fn none(answer: Ended) -> Standing
     let list = turns::inner::no_list();
     let key = turns::inner::no_key();
     let at = Cursor { list, key };
-    let h = Numbers {
+    let h = TableHeader {
         count: 0,
         size: 0,
         directory: 0,
@@ -62,7 +62,7 @@ fn none(answer: Ended) -> Standing
 }
 
 // Where a step leaves the filling, after `count` parts for which `before` was read.
-fn stand(m: PartTurn, h: Numbers, count: usize, before: u64) -> Standing
+fn stand(m: PartTurn, h: TableHeader, count: usize, before: u64) -> Standing
     requires { (m.reads ≤ 257) × (before ≤ 1052672) }
     ensures { Stands h count before (told_turn m) result }
 {
@@ -107,7 +107,7 @@ fn start<'a>(
     base: &'a [u8],
     number: RecordNumber,
     t: &'a [u8],
-    h: Numbers,
+    h: TableHeader,
     l: Rest,
     room: usize,
 ) -> Standing

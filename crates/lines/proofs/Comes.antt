@@ -5,7 +5,7 @@ use native.Mathlib.Nat.{not-suc-le-zero}
 use mathlib.Core.Path.{◌≡◌, refl, sym, ap, ◌∙◌, subst}
 use mathlib.Core.List.{List, [], ◌∷◌, ◌++◌, map}
 use mathlib.Core.Bool.{true}
-use mathlib.Core.Option.{Option, some, none}
+use Rattle.std.specs.Prelude.{Option, Some, None}
 use lib.Dec.{ltb}
 use lib.ListN.{length, take, drop}
 use lib.Seq.{take-take, take-add, take_at, drop_at}
@@ -14,7 +14,7 @@ use Rattle.fields.specs.declared.RecordNumber.{RecordNumber}
 use Rattle.fields.proofs.Cases.{both}
 use Rattle.table.specs.Check.{table_of}
 use Rattle.table.specs.Held.{Held, base_of}
-use Rattle.table.specs.declared.Numbers.{Numbers}
+use Rattle.table.specs.declared.TableHeader.{TableHeader}
 use Rattle.fields.specs.declared.Refusal.{Refusal}
 use Rattle.items.specs.Items.{Left, measure, next_in, told_next}
 use Rattle.turns.specs.Turn.{told_item}
@@ -111,12 +111,12 @@ any-walk : (s : List ℕ) (n : RecordNumber) (look : RecordNumber → Option (Li
 unfolding walk_lines lines_run lines_next
 any-walk s n look k w = any-after s n look (lines_run s n look (measure s w)) _ _ (next_in s n look w).answer
 
-any-based : (t : List ℕ) (h : Numbers) (b : Option Held) → any (base_lines t h b) ≡ true
+any-based : (t : List ℕ) (h : TableHeader) (b : Option Held) → any (base_lines t h b) ≡ true
 unfolding any base_lines table_refused
-any-based t h none = refl
-any-based t h (some b) = refl
+any-based t h None = refl
+any-based t h (Some b) = refl
 
-any-checked : (t : List ℕ) (a : Answer Numbers) → any (checked_lines t a) ≡ true
+any-checked : (t : List ℕ) (a : Answer TableHeader) → any (checked_lines t a) ≡ true
 unfolding any checked_lines table_refused
 any-checked t (gives h) = any-based t h (base_of t)
 any-checked t ends = refl

@@ -4,7 +4,7 @@ use native.Mathlib.Omega.{arith}
 use mathlib.Core.Path.{◌≡◌, refl, sym, ap, ◌∙◌, subst}
 use mathlib.Core.Bool.{true, false}
 use mathlib.Core.List.{List, [], ◌∷◌, ◌++◌, map, append-nil}
-use mathlib.Core.Option.{some}
+use Rattle.std.specs.Prelude.{Some}
 use lib.ListN.{length, take, drop}
 use lib.Seq.{drop-drop}
 use Rattle.fields.specs.Pick.{pick}
@@ -16,7 +16,7 @@ use Rattle.fields.proofs.Opens.{not-true}
 use Rattle.table.specs.Check.{table_of}
 use Rattle.table.specs.Held.{record_at, record_of, held_at, base_row, base_of}
 use Rattle.table.specs.Layout.{row_at}
-use Rattle.table.specs.declared.Numbers.{Numbers}
+use Rattle.table.specs.declared.TableHeader.{TableHeader}
 use Rattle.table.proofs.Sound as tables
 use Rattle.table.proofs.Holds.{base-held, none-some, the-some}
 use Rattle.turns.specs.State.{Lies, Ready, state, no_list, no_key}
@@ -51,14 +51,14 @@ tells {before} {after} r line m b p = record {
 }
 
 -- the last line
-pub last-told : {before : List Text} {d e : List ℕ} {at end : ℕ} (t ns : List ℕ) (h : Numbers) (w : State) (line : Text) (r : Told) → r ≡ ending h w end
+pub last-told : {before : List Text} {d e : List ℕ} {at end : ℕ} (t ns : List ℕ) (h : TableHeader) (w : State) (line : Text) (r : Told) → r ≡ ending h w end
     → before ≡ line ∷ [] → Put d at e end line 256 → Tells before (to_come t r.next ns) d at e r × Sound t r.next
 unfolding to_come to_come_at
 last-told {before} {d} {e} {at} {end} t ns h w line r q b p =
     subst (λ (x : Told). Tells before (to_come t x.next ns) d at e x × Sound t x.next) (sym q) (tells (ending h w end) line refl b p, tt)
 
 -- the base record of a table is as small as every record
-pub base-small : (t : List ℕ) (h : Numbers) → table_of t ≡ gives h → h.base < h.count → length (base_bytes t h) ≤ 4096
+pub base-small : (t : List ℕ) (h : TableHeader) → table_of t ≡ gives h → h.base < h.count → length (base_bytes t h) ≤ 4096
 base-small t h e l =
     let s = tables.sound t h e in
     let m = s.sized.most in
@@ -66,11 +66,11 @@ base-small t h e l =
     omega arith
 
 -- among the items, behind an item's line
-abbrev pub onwards : Numbers → State → ℕ → ℕ → Making
+abbrev pub onwards : TableHeader → State → ℕ → ℕ → Making
 onwards h w k c = record { stage = stage.Items; h = h; walk = w; reads = k; shown = 0; count = c }
 
 -- what is to come there: the lines of its parts, and then those of the walk
-onwards-come : (t : List ℕ) (h : Numbers) (w : State) (k c : ℕ) (ns : List ℕ)
+onwards-come : (t : List ℕ) (h : TableHeader) (w : State) (k c : ℕ) (ns : List ℕ)
     → to_come t (onwards h w k c) ns ≡ part_lines_of c ns ++ walk_lines (base_bytes t h) (base_number t h) (record_of t) k w
 unfolding to_come to_come_at parts_to_come
 onwards-come t h w k c ns = ap (λ (x : ℕ). part_lines_of x ns ++ walk_lines (base_bytes t h) (base_number t h) (record_of t) k w) (omega arith)
@@ -139,19 +139,19 @@ module _ (t : List ℕ) (m : Making) (going : Going t m) where
       ap (λ (x : ℕ). part_lines_of x (drop (5 * m.shown) ns) ++ walk_lines base number (record_of t) m.reads m.walk) k
 
 -- the base row's own index
-base-is : (h : Numbers) (i : ℕ) → base_row h ≡ some i → h.base ≡ i
+base-is : (h : TableHeader) (i : ℕ) → base_row h ≡ Some i → h.base ≡ i
 unfolding base_row
 base-is h i e = the-some (not_first _ _ _ _ e none-some).1
 
 -- the first line of a base record
-begun-comes : (t : List ℕ) (h : Numbers) (ns : List ℕ) (end : ℕ) (a : Answer Unit)
+begun-comes : (t : List ℕ) (h : TableHeader) (ns : List ℕ) (end : ℕ) (a : Answer Unit)
     → opened_lines (base_bytes t h) (base_number t h) (record_of t) a ≡ to_come t (beginning h (base_bytes t h) a end).next ns
 unfolding opened_lines to_come to_come_at stage_of part_lines_of
 begun-comes t h ns end (gives u) = sym (onwards-come t h (fresh_of (base_bytes t h)) 0 0 ns)
 begun-comes t h ns end ends = refl
 begun-comes t h ns end (refuses r) = refl
 
-begun-sound : (t : List ℕ) (h : Numbers) (end : ℕ) (a : Answer Unit) → table_of t ≡ gives h → h.base < h.count → Sound t (beginning h (base_bytes t h) a end).next
+begun-sound : (t : List ℕ) (h : TableHeader) (end : ℕ) (a : Answer Unit) → table_of t ≡ gives h → h.base < h.count → Sound t (beginning h (base_bytes t h) a end).next
 unfolding stage_of fresh_of
 begun-sound t h end (gives u) e l =
     let z = no-list-lies (base_bytes t h) in
@@ -160,7 +160,7 @@ begun-sound t h end (gives u) e l =
 begun-sound t h end ends e l = tt
 begun-sound t h end (refuses r) e l = tt
 
-pub record-told : {d e : List ℕ} {at : ℕ} (t : List ℕ) (h : Numbers) (i : ℕ) (r : Told) → table_of t ≡ gives h → base_row h ≡ some i
+pub record-told : {d e : List ℕ} {at : ℕ} (t : List ℕ) (h : TableHeader) (i : ℕ) (r : Told) → table_of t ≡ gives h → base_row h ≡ Some i
     → Put d at e r.end (record_line (row_at t h i).number (length (record_at t h i))) 256
     → r ≡ beginning h (record_at t h i) (open_in (record_at t h i) (row_at t h i).number h.size) r.end
     → ((ns : List ℕ) → Tells (base_lines t h (base_of t)) (to_come t r.next ns) d at e r) × Sound t r.next
@@ -245,7 +245,7 @@ refused-told t r b p z = (
   (last-told t [] no_numbers (state 0 no_list no_key) refused_line r z b p).1,
 )
 
-pub record-told-of : {d e : List ℕ} {at : ℕ} (t : List ℕ) (h : Numbers) (i : ℕ) (r : Told) (s : List ℕ) (n : RecordNumber) → table_of t ≡ gives h → base_row h ≡ some i
+pub record-told-of : {d e : List ℕ} {at : ℕ} (t : List ℕ) (h : TableHeader) (i : ℕ) (r : Told) (s : List ℕ) (n : RecordNumber) → table_of t ≡ gives h → base_row h ≡ Some i
     → s ≡ record_at t h i → n ≡ (row_at t h i).number → Put d at e r.end (record_line n (length s)) 256 → r ≡ beginning h s (open_in s n h.size) r.end
     → ((ns : List ℕ) → Tells (base_lines t h (base_of t)) (to_come t r.next ns) d at e r) × Sound t r.next
 record-told-of {d} {e} {at} t h i r s n q b u v p z =

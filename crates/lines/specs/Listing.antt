@@ -1,13 +1,12 @@
 -- 01, "The listing": the whole of it, a list of lines, from what the layers below define: items, parts, names and values.
-use Rattle.std.specs.Prelude.{ℕ, zero, suc, ◌+◌, List, [], ◌∷◌, ◌++◌, map, ltb, length}
-use Rattle.std.proofs.Math.Option.{Option, none, some}
+use Rattle.std.specs.Prelude.{ℕ, zero, suc, ◌+◌, List, [], ◌∷◌, ◌++◌, map, ltb, length, Option, Some, None}
 use Rattle.fields.specs.Pick.{pick}
 use Rattle.fields.specs.Answer.{Answer, gives, ends, refuses}
 use Rattle.fields.specs.Open.{open_in}
 use Rattle.fields.specs.declared.RecordNumber.{RecordNumber}
 use Rattle.table.specs.Check.{table_of}
 use Rattle.table.specs.Held.{Held, record_of, base_of}
-use Rattle.table.specs.declared.Numbers.{Numbers}
+use Rattle.table.specs.declared.TableHeader.{TableHeader}
 use Rattle.items.specs.Start.{fresh_of}
 use Rattle.items.specs.Items.{Left, measure, next_in}
 use Rattle.turns.specs.declared.State.{State}
@@ -50,11 +49,11 @@ unfoldable pub table_refused : List Text
 table_refused = refused_line ∷ []
 
 -- "After `record NUMBER size M`": the base row's record, and its walk
-unfoldable pub base_lines : List ℕ → Numbers → Option Held → List Text
-base_lines t h (some b) = record_line b.number (length b.bytes) ∷ opened_lines b.bytes b.number (record_of t) (open_in b.bytes b.number h.size)
-base_lines t h none = table_refused
+unfoldable pub base_lines : List ℕ → TableHeader → Option Held → List Text
+base_lines t h (Some b) = record_line b.number (length b.bytes) ∷ opened_lines b.bytes b.number (record_of t) (open_in b.bytes b.number h.size)
+base_lines t h None = table_refused
 
-unfoldable pub checked_lines : List ℕ → Answer Numbers → List Text
+unfoldable pub checked_lines : List ℕ → Answer TableHeader → List Text
 checked_lines t (gives h) = base_lines t h (base_of t)
 checked_lines t ends = table_refused
 checked_lines t (refuses r) = table_refused

@@ -6,7 +6,7 @@ use Rattle.fields.specs.declared.RecordNumber.{RecordNumber}
 use Rattle.table.specs.Check.{table_of}
 use Rattle.table.specs.Held.{record_at, record_of}
 use Rattle.table.specs.Layout.{row_at}
-use Rattle.table.specs.declared.Numbers.{Numbers}
+use Rattle.table.specs.declared.TableHeader.{TableHeader}
 use Rattle.turns.specs.State.{Lies, state, no_list, no_key}
 use Rattle.items.specs.Start.{fresh_of}
 use Rattle.items.specs.Items.{measure, most_reads}
@@ -20,14 +20,14 @@ use Rattle.lines.specs.declared.Stage.TheVariants as stage
 use Rattle.lines.specs.declared.Told.{Told}
 
 -- the base record and its number, for a table that has a base row
-abbrev pub base_bytes : List ℕ → Numbers → List ℕ
+abbrev pub base_bytes : List ℕ → TableHeader → List ℕ
 base_bytes t h = record_at t h h.base
 
-abbrev pub base_number : List ℕ → Numbers → RecordNumber
+abbrev pub base_number : List ℕ → TableHeader → RecordNumber
 base_number t h = (row_at t h h.base).number
 
 -- a record and its number are those of the table's base row
-pub record Based (t : List ℕ) (h : Numbers) (base : List ℕ) (n : RecordNumber) : Type 0 where
+pub record Based (t : List ℕ) (h : TableHeader) (base : List ℕ) (n : RecordNumber) : Type 0 where
   pub bytes : base ≡ base_bytes t h
   pub number : n ≡ base_number t h
 
@@ -91,7 +91,7 @@ pub record Tells (before after : List Text) (d : List ℕ) (at : ℕ) (e : List 
   pub still : r.more ≡ false → (line ≡ []) × (after ≡ [])
 
 -- behind the last line
-abbrev pub ending : Numbers → State → ℕ → Told
+abbrev pub ending : TableHeader → State → ℕ → Told
 ending h w end = record { next = record { stage = stage.Done; h = h; walk = w; reads = 0; shown = 0; count = 0 }; end = end; more = true }
 
 -- behind the line of one more part
@@ -103,7 +103,7 @@ showing m end = record {
 }
 
 -- the numbers of no table
-abbrev pub no_numbers : Numbers
+abbrev pub no_numbers : TableHeader
 no_numbers = record { count = 0; size = 0; directory = 0; records = 0; base = 0 }
 
 -- before the first line
@@ -116,5 +116,5 @@ stage_of (gives u) = stage.Items
 stage_of ends = stage.Done
 stage_of (refuses r) = stage.Stopped r.number
 
-abbrev pub beginning : Numbers → List ℕ → Answer Unit → ℕ → Told
+abbrev pub beginning : TableHeader → List ℕ → Answer Unit → ℕ → Told
 beginning h s a end = record { next = record { stage = stage_of a; h = h; walk = fresh_of s; reads = 0; shown = 0; count = 0 }; end = end; more = true }

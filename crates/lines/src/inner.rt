@@ -14,11 +14,11 @@ ghost use Rattle.lines.specs.declared.Stage.TheVariants.{Items};
 
 use crate::{Making, Stage, Told};
 use fields::{Opened, RecordNumber};
-use table::{Numbers, RowFound, Tested};
+use table::{TableHeader, RowFound, Tested};
 use turns::{ItemStep, State};
 
 // Where a listing stands that has told all its lines.
-fn done(h: Numbers, w: State, end: usize) -> Told
+fn done(h: TableHeader, w: State, end: usize) -> Told
     ensures { result ≡ ending h w end }
 {
     let stage = Stage::Done;
@@ -157,7 +157,7 @@ fn stage_of(o: Opened) -> Stage
 }
 
 // The first line of a base record.
-fn record_line(base: &[u8], number: RecordNumber, h: Numbers, out: &mut [u8], at: usize) -> Told
+fn record_line(base: &[u8], number: RecordNumber, h: TableHeader, out: &mut [u8], at: usize) -> Told
     requires { at + 256 ≤ length out.old }
     ensures put { Put out.old at out.new result.end (record_line number (length base.now)) 256 }
     ensures value { result ≡ beginning h base.now (open_in base.now number h.size) result.end }
@@ -182,7 +182,7 @@ fn record_line(base: &[u8], number: RecordNumber, h: Numbers, out: &mut [u8], at
 }
 
 // The first line of a table that passed its check.
-fn based_line<'a>(t: &'a [u8], h: Numbers, out: &mut [u8], at: usize) -> Told
+fn based_line<'a>(t: &'a [u8], h: TableHeader, out: &mut [u8], at: usize) -> Told
     requires t_value { table_of t.now ≡ gives h }
     requires at_in_bounds { at + 256 ≤ length out.old }
     ensures told { (ns : List ℕ) → Tells (base_lines t.now h (base_of t.now)) (to_come t.now result.next ns) out.old at out.new result }

@@ -8,7 +8,7 @@ ghost use Rattle.lines.specs.Listing.{listing_of};
 ghost use Rattle.lines.specs.Making.{starting};
 ghost use Rattle.lines.specs.Pages.{page_of, Lists};
 
-use table::Numbers;
+use table::TableHeader;
 use turns::State;
 
 // Where a listing stands: before its first line, among its items, before the line that says by which number it is refused, or behind its last line.
@@ -25,7 +25,7 @@ pub enum Stage {
 #[derive(Clone, Copy)]
 pub struct Making {
     pub stage: Stage,
-    pub h: Numbers,
+    pub h: TableHeader,
     pub walk: State,
     pub reads: u64,
     pub shown: usize,
@@ -45,7 +45,7 @@ pub fn start() -> Making
     ensures { result ≡ starting }
 {
     let stage = Stage::Start;
-    let h = Numbers {
+    let h = TableHeader {
         count: 0,
         size: 0,
         directory: 0,

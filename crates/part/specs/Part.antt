@@ -1,6 +1,5 @@
 -- "Each is looked up and found, then 19, 7, 12": the part that an entry leads to.
-use Rattle.std.specs.Prelude.{ℕ, List}
-use Rattle.std.proofs.Math.Option.{Option}
+use Rattle.std.specs.Prelude.{ℕ, List, Option}
 use Rattle.fields.specs.Pick.{pick}
 use Rattle.fields.specs.Answer.{Answer, gives, ends, refuses, refusal, Counted, ◌⟫◌}
 use Rattle.fields.specs.declared.RecordNumber.{RecordNumber}

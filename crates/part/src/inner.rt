@@ -14,7 +14,7 @@ use fields::{RecordNumber, Refusal, known_type};
 use list::Entry;
 use lookup::Placed;
 use raw::{Attribute, Checked};
-use table::Numbers;
+use table::TableHeader;
 use turns::Key;
 use turns::inner::key_of;
 use values::{FullHeader, NonResidentHeader, Valued};
@@ -110,7 +110,7 @@ pub fn part_of<'a>(
     base: &'a [u8],
     number: RecordNumber,
     t: &'a [u8],
-    h: Numbers,
+    h: TableHeader,
     e: Entry,
     place: usize,
 ) -> PartFound

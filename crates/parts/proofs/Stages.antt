@@ -5,13 +5,13 @@ use Rattle.fields.specs.Answer.{gives}
 use Rattle.fields.specs.declared.RecordNumber.{RecordNumber}
 use Rattle.fields.proofs.Opens.{opened_sized}
 use Rattle.table.specs.Check.{open_table}
-use Rattle.table.specs.declared.Numbers.{Numbers}
+use Rattle.table.specs.declared.TableHeader.{TableHeader}
 use Rattle.table.proofs.Sound.{opened}
 use Rattle.turns.specs.State.{Ready}
 use Rattle.turns.specs.declared.Rest.{Rest}
 use Rattle.items.specs.Start.{inside_of}
 
-pub ready : (s : List ℕ) (n : RecordNumber) (t : List ℕ) (h : Numbers) → open_table s n t ≡ gives h → Ready s t h
+pub ready : (s : List ℕ) (n : RecordNumber) (t : List ℕ) (h : TableHeader) → open_table s n t ≡ gives h → Ready s t h
 ready s n t h e = let o = opened s n t h e in record { sound = o.table; small = (opened_sized s n o.passed).most }
 
 pub ordered : (s : List ℕ) (n : RecordNumber) (l : Rest) (u : Unit) → inside_of s n l ≡ gives u → l.is ≡ true → l.from ≤ l.to

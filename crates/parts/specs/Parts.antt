@@ -1,6 +1,5 @@
 -- 01, "Parts": one entry after another, from the item's own on.
-use Rattle.std.specs.Prelude.{ℕ, zero, suc, ◌+◌, ◌-◌, ◌≡◌, List, [], ◌∷◌, ◌++◌, ltb, length, drop, replicate}
-use Rattle.std.proofs.Math.Option.{Option}
+use Rattle.std.specs.Prelude.{ℕ, zero, suc, ◌+◌, ◌-◌, ◌≡◌, List, [], ◌∷◌, ◌++◌, ltb, length, drop, replicate, Option}
 use Rattle.fields.specs.Pick.{pick}
 use Rattle.fields.specs.Answer.{Answer, gives, ends, refuses, refusal, Counted, ◌⟫◌}
 use Rattle.fields.specs.declared.RecordNumber.{RecordNumber}

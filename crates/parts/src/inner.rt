@@ -10,7 +10,7 @@ use fields::{RecordNumber, Refusal, Vcn};
 use list::{Entry, EntryStep};
 use part::inner::{judge_part, key_for, part_of};
 use part::{Joined, Part, PartFound, PartRead};
-use table::Numbers;
+use table::TableHeader;
 use turns::{Key, Rest};
 use values::Span;
 
@@ -49,7 +49,7 @@ fn step_keyed<'a>(
     base: &'a [u8],
     number: RecordNumber,
     t: &'a [u8],
-    h: Numbers,
+    h: TableHeader,
     part: &'a [u8],
     room: usize,
     k: usize,
@@ -93,7 +93,7 @@ pub fn step<'a>(
     base: &'a [u8],
     number: RecordNumber,
     t: &'a [u8],
-    h: Numbers,
+    h: TableHeader,
     room: usize,
     k: usize,
     c: Cursor,
@@ -134,7 +134,7 @@ pub fn collect<'a>(
     base: &'a [u8],
     number: RecordNumber,
     t: &'a [u8],
-    h: Numbers,
+    h: TableHeader,
     l: Rest,
 ) -> Collected
     requires ready { Ready base.now t.now h }

@@ -2,7 +2,7 @@
 ghost use Rattle.std.specs.Prelude.{◌≡◌, ◌+◌, ◌*◌, ◌≤◌, length};
 ghost use Rattle.table.specs.Layout.{width, row_in, row_at};
 
-use crate::{Numbers, Row};
+use crate::{TableHeader, Row};
 use fields::RecordNumber;
 use fields::inner::{u32_at, u64_at};
 
@@ -23,7 +23,7 @@ fn row_in(t: &[u8], at: usize) -> Row
 
 // Row i of the directory.
 #[tactic(auto, unfolding(crate::specs::Layout::row_at))]
-pub fn row_at(t: &[u8], h: Numbers, i: usize) -> Row
+pub fn row_at(t: &[u8], h: TableHeader, i: usize) -> Row
     requires { h.directory + width * i + width ≤ length t.now }
     ensures { result ≡ row_at t.now h i }
 {

@@ -1,6 +1,5 @@
 -- 01, "Items", as small steps: one reads at most one entry with its lookup, or one raw attribute. It passes on or answers, and says the state it leaves and what it read.
-use Rattle.std.specs.Prelude.{ℕ, ◌+◌, List, eqb}
-use Rattle.std.proofs.Math.Option.{Option}
+use Rattle.std.specs.Prelude.{ℕ, ◌+◌, List, eqb, Option}
 use Rattle.fields.specs.Pick.{pick}
 use Rattle.fields.specs.Answer.{Answer, gives, ends, refuses, refusal, Counted}
 use Rattle.fields.specs.Known.{known_type}

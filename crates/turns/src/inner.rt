@@ -14,7 +14,7 @@ use fields::{RecordNumber, Refusal, known_type};
 use list::{Entry, EntryStep};
 use lookup::Placed;
 use raw::{Attribute, Checked, RawStep};
-use table::Numbers;
+use table::TableHeader;
 use values::Spanned;
 
 pub fn no_list() -> Rest
@@ -155,7 +155,7 @@ fn looked_turn<'a>(
     base: &'a [u8],
     number: RecordNumber,
     t: &'a [u8],
-    h: Numbers,
+    h: TableHeader,
     part: &'a [u8],
     w: State,
     e: Entry,
@@ -178,7 +178,7 @@ fn given_turn<'a>(
     base: &'a [u8],
     number: RecordNumber,
     t: &'a [u8],
-    h: Numbers,
+    h: TableHeader,
     part: &'a [u8],
     w: State,
     e: Entry,
@@ -212,7 +212,7 @@ pub fn entry_turn<'a>(
     base: &'a [u8],
     number: RecordNumber,
     t: &'a [u8],
-    h: Numbers,
+    h: TableHeader,
     w: State,
 ) -> Turn
     requires ready { Ready base.now t.now h }
