@@ -3,17 +3,16 @@ use Prim.Native.Nat.{ℕ}
 use mathlib.Core.Path.{◌≡◌, sym, ap, ◌∙◌}
 use mathlib.Core.List.{List}
 use denote.Ref.{Bor}
-use Rattle.fields.specs.Answer.{Answer}
+use Rattle.std.specs.Prelude.{Option, Result}
 use Rattle.fields.specs.declared.RecordNumber.{RecordNumber}
-use Rattle.raw.specs.Step.{told_step}
+use Rattle.fields.specs.declared.Refusal.{Refusal}
+use Rattle.fields.proofs.Settled.{step-settled}
 use Rattle.raw.specs.declared.Attribute.{Attribute}
-use Rattle.raw.specs.declared.RawStep.{RawStep}
-use Rattle.raw.proofs.Settled.{step-settled}
 use Rattle.reader.specs.Take.{Moves, Starts, Takes}
 use Rattle.reader.specs.declared.Reader.{Reader}
 use Rattle.reader.specs.declared.Moved.{Moved}
 
-moved : RawStep → ℕ → Moved
+moved : Result (Option Attribute) Refusal → ℕ → Moved
 moved a p = record { answer = a; at = p }
 
 -- `step`
@@ -41,10 +40,6 @@ pub started-settled : {s : Bor (List ℕ)} {n : RecordNumber} {r t : Reader} →
 started-settled {s} {n} {r} {t} p q = same r t (p.bytes ∙ sym q.bytes) (p.number ∙ sym q.number) (p.place ∙ sym q.place)
 
 -- `take`: its answer, and the reader at exit
-pub took-settled : {h r t : Reader} {x y : RawStep} → Takes h x r → Takes h y t → (x ≡ y) × (r ≡ t)
+pub took-settled : {h r t : Reader} {x y : Result (Option Attribute) Refusal} → Takes h x r → Takes h y t → (x ≡ y) × (r ≡ t)
 took-settled {h} {r} {t} {x} {y} p q =
     (step-settled {r = x} {t = y} p.answer q.answer, same r t (p.bytes ∙ sym q.bytes) (p.number ∙ sym q.number) (p.place ∙ sym q.place))
-
--- `taken`
-pub taken-settled : {r t : RawStep} {a : Answer Attribute} → told_step r ≡ a → told_step t ≡ a → r ≡ t
-taken-settled p q = step-settled p q

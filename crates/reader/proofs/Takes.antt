@@ -6,14 +6,13 @@ use native.Mathlib.Omega.{arith}
 use native.Mathlib.Numerals.{add-one}
 use Rattle.fields.specs.Header.{first_attribute}
 use denote.Ref.{Bor}
-use Rattle.fields.specs.Answer.{Answer, gives, ends, refuses}
+use Rattle.std.specs.Prelude.{Option, None, Result, Ok, Err}
+use Rattle.fields.specs.Answer.{Answer, gives, ends, refuses, told_step}
 use Rattle.fields.specs.declared.RecordNumber.{RecordNumber}
 use Rattle.fields.specs.declared.Refusal.{Refusal}
 use Rattle.raw.specs.Attribute.{Inside}
-use Rattle.raw.specs.Step.{told_step, step_of}
+use Rattle.raw.specs.Step.{step_of}
 use Rattle.raw.specs.declared.Attribute.{Attribute}
-use Rattle.raw.specs.declared.RawStep.{RawStep}
-use Rattle.raw.specs.declared.RawStep.TheVariants as raw
 use Rattle.reader.specs.Take.{place_after, Starts, Takes}
 use Rattle.reader.specs.Trail.{answer_of, place_of}
 use Rattle.reader.specs.declared.Reader.{Reader}
@@ -83,19 +82,19 @@ module _ (s : List ℕ) (n : RecordNumber) where
 
 -- at the end and at a refusal a take leaves the reader, at any place, as it is, so every further one answers the same
 module _ (q r : Reader) where
-  pub at-end : Takes q raw.End r → r ≡ q
+  pub at-end : Takes q (Ok None) r → r ≡ q
   unfolding place_after
   at-end e = same r q e.bytes e.number (e.place ∙ ap (place_after q.at) (sym e.answer))
 
-  pub at-refusal : (f : Refusal) → Takes q (raw.Refused f) r → r ≡ q
+  pub at-refusal : (f : Refusal) → Takes q (Err f) r → r ≡ q
   unfolding place_after
   at-refusal f e = same r q e.bytes e.number (e.place ∙ ap (place_after q.at) (sym e.answer))
 
-  pub again : (x y : RawStep) (t : Reader) → Takes q x r → r ≡ q → Takes r y t → (y ≡ x) × (t ≡ r)
+  pub again : (x y : Result (Option Attribute) Refusal) (t : Reader) → Takes q x r → r ≡ q → Takes r y t → (y ≡ x) × (t ≡ r)
   again x y t e g f = took-settled (subst (λ (z : Reader). Takes z y t) g f) e
 
 -- m takes one after another, from a reader that was started: the k-th turns the reader q k into q (suc k) and answers x k
-module _ (s : Bor (List ℕ)) (n : RecordNumber) (q : ℕ → Reader) (x : ℕ → RawStep) (m : ℕ) (begun : Starts s n (q 0)) (next : (k : ℕ) → k < m → Takes (q k) (x k) (q (suc k))) where
+module _ (s : Bor (List ℕ)) (n : RecordNumber) (q : ℕ → Reader) (x : ℕ → Result (Option Attribute) Refusal) (m : ℕ) (begun : Starts s n (q 0)) (next : (k : ℕ) → k < m → Takes (q k) (x k) (q (suc k))) where
   -- the reader keeps the record and its number, and stands where the walk does
   pub record Kept (k : ℕ) : Type 0 where
     pub bytes : (q k).bytes ≡ s

@@ -1,12 +1,12 @@
 -- 01: "a record reader that keeps the lent record and its place .. with the raw walk's answers". What starting a reader and taking from it mean.
-use Rattle.std.specs.Prelude.{ℕ, ◌+◌, ◌≡◌, List}
+use Rattle.std.specs.Prelude.{ℕ, ◌+◌, ◌≡◌, List, Option, Result}
 use Rattle.std.specs.Borrow.{Bor}
-use Rattle.fields.specs.Answer.{Answer, gives, ends, refuses}
+use Rattle.fields.specs.Answer.{Answer, gives, ends, refuses, told_step}
 use Rattle.fields.specs.Header.{first_attribute}
 use Rattle.fields.specs.declared.RecordNumber.{RecordNumber}
-use Rattle.raw.specs.Step.{told_step, step_of}
+use Rattle.fields.specs.declared.Refusal.{Refusal}
+use Rattle.raw.specs.Step.{step_of}
 use Rattle.raw.specs.declared.Attribute.{Attribute}
-use Rattle.raw.specs.declared.RawStep.{RawStep}
 use Rattle.reader.specs.declared.Reader.{Reader}
 use Rattle.reader.specs.declared.Moved.{Moved}
 
@@ -28,7 +28,7 @@ pub record Starts (s : Bor (List ℕ)) (n : RecordNumber) (r : Reader) : Type 0 
   pub place : r.at ≡ first_attribute s.now
 
 -- a take from the reader q answers x and leaves the reader r
-pub record Takes (q : Reader) (x : RawStep) (r : Reader) : Type 0 where
+pub record Takes (q : Reader) (x : Result (Option Attribute) Refusal) (r : Reader) : Type 0 where
   pub answer : told_step x ≡ step_of q.bytes.now q.number q.at
   pub bytes : r.bytes ≡ q.bytes
   pub number : r.number ≡ q.number

@@ -1,13 +1,13 @@
 // A record reader: it keeps the lent record and its place in the raw walk. What it answers is the raw walk's own.
 #![tactic(auto)]
 
-ghost use Rattle.raw.specs.Step.{told_step};
 ghost use Rattle.std.specs.Prelude.{◌≡◌};
+ghost use Rattle.fields.specs.Answer.{told_step};
 ghost use Rattle.reader.specs.Take.{Moves, Starts, Takes};
 ghost use Rattle.reader.specs.Trail.{answer_of};
 
-use fields::RecordNumber;
-use raw::RawStep;
+use fields::{RecordNumber, Refusal};
+use raw::Attribute;
 
 // The lent record and its number, and the place of the next step.
 #[derive(Clone, Copy)]
@@ -20,7 +20,7 @@ pub struct Reader<'a> {
 // What a step of the raw walk answered, and the place after it.
 #[derive(Clone, Copy)]
 pub struct Moved {
-    pub answer: RawStep,
+    pub answer: Result<Option<Attribute>, Refusal>,
     pub at: usize,
 }
 
@@ -31,12 +31,11 @@ pub fn step(s: &[u8], number: RecordNumber, at: usize) -> Moved
 {
     let answer = raw::step(s, number, at);
     match answer {
-        RawStep::Given(h) => Moved {
+        Ok(Some(h)) => Moved {
             answer,
             at: at + h.length,
         },
-        RawStep::End => Moved { answer, at },
-        RawStep::Refused(_) => Moved { answer, at },
+        Ok(None) | Err(_) => Moved { answer, at },
     }
 }
 
@@ -53,7 +52,7 @@ pub fn start<'a>(s: &'a [u8], number: RecordNumber) -> Reader<'a>
 }
 
 // The step at the reader's place, which moves past an attribute and stays at the end and at a refusal.
-pub fn take<'s, 'a>(r: &'s mut Reader<'a>) -> RawStep
+pub fn take<'s, 'a>(r: &'s mut Reader<'a>) -> Result<Option<Attribute>, Refusal>
     ensures { Takes r.old result r.new }
 {
     let m = step(r.bytes, r.number, r.at);
@@ -63,12 +62,12 @@ pub fn take<'s, 'a>(r: &'s mut Reader<'a>) -> RawStep
 
 // What a reader answers after so many takes: for callers without a reader of their own.
 #[tactic(auto, using(crate::proofs::Takes::places))]
-pub fn taken(s: &[u8], number: RecordNumber, turns: usize) -> RawStep
+pub fn taken(s: &[u8], number: RecordNumber, turns: usize) -> Result<Option<Attribute>, Refusal>
     ensures { told_step result ≡ answer_of s.now number turns }
 {
     let mut r = start(s, number);
     for _ in 0..turns {
-        take(&mut r);
+        let _ = take(&mut r);
     }
     take(&mut r)
 }
