@@ -17,9 +17,7 @@ pub fn part<'a>(s: &'a [u8], p: Span) -> &'a [u8]
     requires { p.from + p.bytes ≤ length s.now }
     ensures { result.now ≡ bytes_at s.now p }
 {
-    let from = p.from;
-    let to = p.from + p.bytes;
-    &s[from..to]
+    &s[p.from..p.from + p.bytes]
 }
 
 fn no_span(n: u8, number: RecordNumber, place: usize) -> Spanned
@@ -40,10 +38,7 @@ pub fn name_of(number: RecordNumber, h: Attribute) -> Spanned
 {
     let name = h.name as usize;
     let bytes = 2 * (h.units as usize);
-    if name == 0 {
-        return Spanned::At(Span { from: 0, bytes: 0 });
-    }
-    if bytes == 0 {
+    if name == 0 || bytes == 0 {
         return Spanned::At(Span { from: 0, bytes: 0 });
     }
     if h.length <= name {
@@ -162,17 +157,13 @@ pub fn value_of(s: &[u8], number: RecordNumber, h: Attribute) -> Valued
     requires { Inside s.now h }
     ensures { told_valued result ≡ value_in s.now number h }
 {
-    let f = full_of(s, number, h);
-    match f {
+    match full_of(s, number, h) {
         FullHeader::Refused(r) => Valued::Refused(r),
         FullHeader::NonResident(f) => runs_span(number, h, f),
-        FullHeader::Resident(f) => {
-            let p = resident_span(number, h, f);
-            match p {
-                Spanned::Refused(r) => Valued::Refused(r),
-                Spanned::At(p) => Valued::Resident(p),
-            }
-        }
+        FullHeader::Resident(f) => match resident_span(number, h, f) {
+            Spanned::Refused(r) => Valued::Refused(r),
+            Spanned::At(p) => Valued::Resident(p),
+        },
     }
 }
 
@@ -182,8 +173,7 @@ pub fn list_of(s: &[u8], number: RecordNumber, h: Attribute) -> Spanned
     requires { Inside s.now h }
     ensures { told_spanned result ≡ list_in s.now number h }
 {
-    let f = full_of(s, number, h);
-    match f {
+    match full_of(s, number, h) {
         FullHeader::Refused(r) => Spanned::Refused(r),
         FullHeader::NonResident(_) => no_span(13, number, h.offset),
         FullHeader::Resident(f) => resident_span(number, h, f),
