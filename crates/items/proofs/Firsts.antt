@@ -1,37 +1,26 @@
 -- The first of a type takes item after item, each of which lowers the walk's measure, so it ends. And how the opening checks lead to a walk.
-use Prim.Native.Nat.{ℕ, ◌+◌, ◌≤◌, ◌<◌}
+use Prim.Native.Nat.{ℕ, ◌+◌, ◌<◌}
 use mathlib.Core.Path.{◌≡◌, refl, sym, ap, ◌∙◌, subst}
-use mathlib.Core.Bool.{Bool, true}
 use mathlib.Core.List.{List}
 use mathlib.Core.Option.{Option}
 use native.Mathlib.Omega.{arith}
 use Rattle.std.proofs.lemmas.Bool.Decides.{nat_tests}
-use borrow.Author.Tests.{ltb-false}
-use lib.Dec.{ltb}
 use lib.ListN.{length}
-use Rattle.fields.specs.Pick.{pick}
 use Rattle.fields.specs.Answer.{Answer, gives, ends, refuses, refusal, Counted}
 use Rattle.fields.specs.Walk.{stop, go}
 use Rattle.fields.specs.declared.RecordNumber.{RecordNumber}
-use Rattle.fields.specs.declared.Refusal.{Refusal}
 use Rattle.fields.proofs.Cases.{not_first, not-second}
-use Rattle.fields.proofs.Answers.{refused-given}
 use Rattle.fields.proofs.Walks.{Falls, on-stop, on_go, stop-go, the-go}
-use Rattle.table.specs.Held.{record_of}
 use Rattle.table.specs.declared.Numbers.{Numbers}
 use Rattle.table.specs.Check.{open_table}
 use Rattle.table.proofs.Sound.{opened}
 use Rattle.fields.proofs.Opens.{opened_sized}
 use Rattle.turns.specs.State.{Lies, Ready}
 use Rattle.items.specs.Start.{inside_of}
-use Rattle.turns.specs.Turn.{told_item}
-use Rattle.items.specs.Items.{Left, leaves, told_next, Going, going, measure, next_in, next_after}
-use Rattle.items.specs.First.{counted_item, first_after, first_from, first_turn, first_walk, first_in, first_after_opening}
-use Rattle.turns.specs.declared.State.{State}
+use Rattle.items.specs.Items.{Left, Going, going, measure, next_in}
+use Rattle.items.specs.First.{counted_item, first_after, first_from, first_turn, first_walk, first_in}
 use Rattle.turns.specs.declared.Rest.{Rest}
 use Rattle.turns.specs.declared.Item.{Item}
-use Rattle.turns.specs.declared.ItemStep.{ItemStep}
-use Rattle.items.specs.declared.Walked.{Walked}
 use Rattle.items.proofs.Kept.{next-sinks}
 
 module _ (s : List ℕ) (n : RecordNumber) (look : RecordNumber → Option (List ℕ)) (ty : ℕ) where

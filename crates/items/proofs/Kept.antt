@@ -10,11 +10,10 @@ use Rattle.fields.specs.Pick.{pick}
 use Rattle.fields.specs.Answer.{Answer, gives, ends, refuses}
 use Rattle.fields.specs.Walk.{stop, go}
 use Rattle.fields.specs.declared.RecordNumber.{RecordNumber}
-use Rattle.fields.proofs.Cases.{yes, no}
 use Rattle.fields.proofs.Answers.{ended-given, refused-given, the-given}
 use Rattle.fields.proofs.Walks.{Falls, on-stop, on_go, walked, stop-go, go-stop, the-stop, the-go}
 use Rattle.turns.specs.State.{Lies}
-use Rattle.turns.specs.Turn.{Small, passes, answers, entry_turn, raw_turn}
+use Rattle.turns.specs.Turn.{Small, passes, answers}
 use Rattle.items.specs.Items.{small_step, Left, leaves, Going, going, never, measure, turn_after, turn, next_from, next_in}
 use Rattle.turns.specs.declared.State.{State}
 use Rattle.turns.specs.declared.Item.{Item}
