@@ -28,6 +28,7 @@ struct Contents {
 }
 
 // Both from one look at the item's record.
+#[tactic(auto, unfolding(crate::specs::Gather::name_for, crate::specs::Gather::value_for, crate::specs::Gather::record_for))]
 fn contents_of<'a>(
     base: &'a [u8],
     number: RecordNumber,
@@ -59,19 +60,20 @@ fn contents_of<'a>(
 }
 
 // The five numbers of a part's line, behind those of the k parts before it.
+#[tactic(auto, using(crate::proofs::Gathers::five_more), unfolding(line::specs::Lines::part_numbers))]
 fn keep(numbers: &mut [u64], k: usize, p: Part)
     requires { 5 * k + 5 ≤ length numbers.old }
     ensures { (take (5 * (k + 1)) numbers.new ≡ take (5 * k) numbers.old ++ part_numbers p) × (length numbers.new ≡ length numbers.old) }
 {
     let at = 5 * k;
-    let file = p.file;
-    let lowest = p.lowest;
-    let runs = p.runs;
-    numbers[at] = file.0;
-    numbers[at + 1] = p.offset as u64;
-    numbers[at + 2] = lowest.0;
-    numbers[at + 3] = runs.from as u64;
-    numbers[at + 4] = runs.bytes as u64;
+    let five = [
+        p.file.0,
+        p.offset as u64,
+        p.lowest.0,
+        p.runs.from as u64,
+        p.runs.bytes as u64,
+    ];
+    numbers[at..at + 5].copy_from_slice(&five);
 }
 
 // The size of the first part, at the first part.
@@ -130,6 +132,7 @@ fn gather<'a>(
 }
 
 // The parts of an item; without a list there are none.
+#[tactic(auto, using(crate::proofs::Gathers::gathered_none), unfolding(parts::specs::Parts::parts_in))]
 fn gathered<'a>(
     base: &'a [u8],
     number: RecordNumber,
@@ -157,6 +160,7 @@ fn gathered<'a>(
 }
 
 // The line of an item, with its parts gathered for the lines behind it.
+#[tactic(auto, using(crate::proofs::Gathers::item_text), unfolding(crate::specs::Gather::parts_for))]
 pub fn item_line<'a>(
     base: &'a [u8],
     number: RecordNumber,

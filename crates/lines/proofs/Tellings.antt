@@ -4,7 +4,8 @@ use native.Mathlib.Omega.{arith}
 use mathlib.Core.Path.{◌≡◌, refl, sym, ap, ◌∙◌, subst}
 use mathlib.Core.Bool.{true, false}
 use mathlib.Core.List.{List, [], ◌∷◌, ◌++◌, map, append-nil}
-use mathlib.Core.Option.{some}
+use mathlib.Core.Option.{none, some}
+use lib.Dec.{eqb}
 use lib.ListN.{length, take, drop}
 use lib.Seq.{drop-drop}
 use Rattle.fields.specs.Pick.{pick}
@@ -141,7 +142,7 @@ module _ (t : List ℕ) (m : Making) (going : Going t m) where
 -- the base row's own index
 base-is : (h : Numbers) (i : ℕ) → base_row h ≡ some i → h.base ≡ i
 unfolding base_row
-base-is h i e = the-some (not_first _ _ _ _ e none-some).1
+base-is h i e = the-some (not_first (eqb h.base h.count) none (some h.base) (some i) e none-some).1
 
 -- the first line of a base record
 begun-comes : (t : List ℕ) (h : Numbers) (ns : List ℕ) (end : ℕ) (a : Answer Unit)
@@ -263,5 +264,4 @@ sound-at t m e h = subst (SoundAt t m) e h
 
 -- nothing was to come
 pub nothing-told : {after : List Text} {d : List ℕ} {at : ℕ} {before : List Text} (m : Making) → before ≡ [] → after ≡ [] → Tells before after d at d (record { next = m; end = at; more = false })
-unfolding pick
 nothing-told {after} {d} {at} m b a = record { line = []; told = b; put = record { is = sym (append-nil (take at d)); long = refl; least = omega arith; most = omega arith; tail = refl }; still = λ f. (refl, a) }
