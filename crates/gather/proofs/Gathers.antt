@@ -1,5 +1,5 @@
 -- The numbers of the parts found so far stand in front of the lent ones, and from the cursor on the rest of the parts follows.
-use Rattle.std.proofs.Common.{◌≡◌, ℕ, zero, suc, ◌+◌, ◌-◌, ◌*◌, ◌<◌, ◌≤◌, true, false, List, [], ◌∷◌, ◌++◌, length, take, set, refl, sym, ap, ◌∙◌, subst, append_assoc, append-nil, arith}
+use Rattle.std.proofs.Common.{◌≡◌, ℕ, zero, suc, ◌+◌, ◌-◌, ◌*◌, ◌<◌, ◌≤◌, false, List, [], ◌∷◌, ◌++◌, length, take, set, refl, sym, ap, ◌∙◌, subst, append_assoc, append-nil, arith}
 use Rattle.std.proofs.Math.Option.{Option}
 use Rattle.std.proofs.lemmas.Slice.{take-put_mid}
 use borrow.Rule.Slice.PartMut.{put_mid}
@@ -9,7 +9,7 @@ use Rattle.fields.specs.Pick.{pick}
 use Rattle.fields.specs.Answer.{Answer, gives}
 use Rattle.fields.specs.declared.RecordNumber.{RecordNumber}
 use Rattle.fields.proofs.Stores.{stored}
-use Rattle.fields.proofs.Cases.{yes, no, eq-n}
+use Rattle.fields.proofs.Cases.{no, eq-n}
 use Rattle.values.specs.Value.{Value}
 use Rattle.values.specs.declared.Span.{Span}
 use Rattle.turns.specs.State.{no_key}
@@ -20,7 +20,7 @@ use Rattle.part.specs.declared.Part.{Part}
 use Rattle.parts.specs.declared.Cursor.{Cursor}
 use Rattle.parts.specs.declared.Ended.{Ended}
 use Rattle.parts.specs.declared.Ended.TheVariants as ended
-use Rattle.parts.proofs.Fills.{Filling, begun, stopped, more}
+use Rattle.parts.proofs.Fills.{Filling, begun, stopped, more, blank_size}
 use Rattle.line.specs.Lines.{Text, part_numbers, name_text, value_text, parts_text, attr_line}
 use Rattle.gather.specs.Gather.{first_size, name_for, value_for, parts_for, parts_text_of, item_line, all_numbers, Gathers}
 use Rattle.line.specs.declared.Gathered.{Gathered}
@@ -53,9 +53,8 @@ module _ (s : List ℕ) (n : RecordNumber) (look : RecordNumber → Option (List
   unfolding first_size all_numbers
   begins ns o = record { filling = begun s n look 157 l blank_parts o; kept = refl; first = refl }
 
-  pub blank-length : length blank_parts ≡ 157
-  unfolding blank_parts
-  blank-length = refl
+  pub begins_at : (ns : List ℕ) (c : Cursor) → l.from ≤ l.to → c ≡ cursor l no_key → Gathering blank_parts 0 0 0 c ns
+  begins_at ns c o e = rw e (begins ns o)
 
   module _ (ps : List Part) (count size reads : ℕ) (c : Cursor) (ns : List ℕ) (h : Gathering ps count size reads c ns) where
     pub one_more : (p : Part) (d : Cursor) (k size' : ℕ) (ns' : List ℕ) → step_in s n look 157 count c ≡ lists p d k → k ≤ 257 → count < 157
@@ -63,7 +62,7 @@ module _ (s : List ℕ) (n : RecordNumber) (look : RecordNumber → Option (List
         → Gathering (set ps count p) (count + 1) size' (reads + k) d ns'
     one_more p d k size' ns' e f b g z =
         let w = h.filling.size in
-        let v = blank-length in
+        let v = blank_size in
         let x : count < length ps = omega arith in
         let taken = stored ps count p x in
         record {
@@ -73,9 +72,9 @@ module _ (s : List ℕ) (n : RecordNumber) (look : RecordNumber → Option (List
               ∙ sized (take count ps) p count (length-take-le count ps (omega arith)) ∙ ap first_size (sym taken);
         }
 
-    pub gathered : (a : Ended) (k : ℕ) → step_in s n look 157 count c ≡ stops (told_ended a) k
+    pub gathers : (a : Ended) (k : ℕ) → step_in s n look 157 count c ≡ stops (told_ended a) k
         → Gathers (parts_from s n look 157 l) ns (record { count = count; size = size; answer = a; reads = reads + k })
-    gathered a k e =
+    gathers a k e =
         let w = stopped s n look 157 l blank_parts ps count reads c h.filling (told_ended a) k e in
         let z = h.filling.size in let m = h.filling.most in
         record {
@@ -86,12 +85,7 @@ module _ (s : List ℕ) (n : RecordNumber) (look : RecordNumber → Option (List
           kept = h.kept ∙ ap (λ (x : Listing). all_numbers x.parts) (sym w);
         }
 
--- the same behind the question whether there is a list
-pub gathered_listed : (s : List ℕ) (n : RecordNumber) (look : RecordNumber → Option (List ℕ)) (l : Rest) (ns : List ℕ) (r : Gathered) → l.is ≡ true
-    → Gathers (parts_from s n look 157 l) ns r → Gathers (parts_in s n look 157 l) ns r
-unfolding parts_in
-gathered_listed s n look l ns r e g = subst (λ (x : Listing). Gathers x ns r) (yes l.is (parts_from s n look 157 l) (listing [] (gives tt) 0) e refl) g
-
+-- no list, no parts
 pub gathered_none : (s : List ℕ) (n : RecordNumber) (look : RecordNumber → Option (List ℕ)) (l : Rest) (ns : List ℕ) → l.is ≡ false
     → Gathers (parts_in s n look 157 l) ns (record { count = 0; size = 0; answer = ended.Whole; reads = 0 })
 unfolding parts_in first_size all_numbers

@@ -1,5 +1,5 @@
 -- 01, "The listing": the line of an item, from what the layers below define: its name, its value and its parts.
-use Rattle.std.specs.Prelude.{ℕ, ◌+◌, ◌*◌, List, [], ◌∷◌, ◌++◌, length, take, ◌≡◌}
+use Rattle.std.specs.Prelude.{ℕ, ◌*◌, List, [], ◌∷◌, ◌++◌, length, take, ◌≡◌}
 use Rattle.std.proofs.Math.Option.{Option}
 use Rattle.fields.specs.Pick.{pick}
 use Rattle.fields.specs.Answer.{Answer, ◌⟫◌}

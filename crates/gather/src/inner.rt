@@ -40,21 +40,18 @@ fn contents_of<'a>(
     ensures name { told_spanned result.name ≡ name_for base.now number (record_of t.now) i }
     ensures value { told_valued result.value ≡ value_for base.now number (record_of t.now) i }
 {
-    let file = i.file;
-    let attribute = i.attribute;
-    let at = attribute.offset;
-    let p = lookup::inner::lookup(base, number, t, h, file, 0);
-    match p {
-        Placed::Refused(r) => {
-            let name = Spanned::Refused(r);
-            let value = Valued::Refused(r);
-            Contents { name, value }
-        }
+    let at = i.attribute.offset;
+    match lookup::inner::lookup(base, number, t, h, i.file, 0) {
+        Placed::Refused(r) => Contents {
+            name: Spanned::Refused(r),
+            value: Valued::Refused(r),
+        },
         Placed::At(q) => {
             let s = lookup::inner::part(base, t, h, q);
-            let name = values::name(s, file, at);
-            let value = values::value(s, file, at);
-            Contents { name, value }
+            Contents {
+                name: values::name(s, i.file, at),
+                value: values::value(s, i.file, at),
+            }
         }
     }
 }
@@ -63,7 +60,8 @@ fn contents_of<'a>(
 #[tactic(auto, using(crate::proofs::Gathers::five_more), unfolding(line::specs::Lines::part_numbers))]
 fn keep(numbers: &mut [u64], k: usize, p: Part)
     requires { 5 * k + 5 ≤ length numbers.old }
-    ensures { (take (5 * (k + 1)) numbers.new ≡ take (5 * k) numbers.old ++ part_numbers p) × (length numbers.new ≡ length numbers.old) }
+    ensures kept { take (5 * (k + 1)) numbers.new ≡ take (5 * k) numbers.old ++ part_numbers p }
+    ensures numbers_len_unchanged { length numbers.new ≡ length numbers.old }
 {
     let at = 5 * k;
     let five = [
@@ -96,30 +94,31 @@ fn gather<'a>(
     numbers: &mut [u64],
 ) -> Gathered
     requires ready { Ready base.now t.now h }
-    requires from_le_to { (l.from ≤ l.to) × (l.to ≤ length base.now) }
-    requires in_bounds { 785 ≤ length numbers.old }
+    requires order { l.from ≤ l.to }
+    requires most { l.to ≤ length base.now }
+    requires numbers_room { 785 ≤ length numbers.old }
     ensures gathers { Gathers (parts_from base.now number (record_of t.now) 157 l) numbers.new result }
-    ensures numbers_len_unchanged { (length numbers.new ≡ length numbers.old) × ((result.reads ≤ 1052929) × (result.count ≤ 157)) }
+    ensures numbers_len_unchanged { length numbers.new ≡ length numbers.old }
+    ensures few_reads { result.reads ≤ 1052929 }
+    ensures few_parts { result.count ≤ 157 }
 {
     let mut count: usize = 0;
     let mut size: u64 = 0;
     let mut reads: u64 = 0;
-    let key = turns::inner::no_key();
-    let mut c = Cursor { list: l, key };
+    let mut c = Cursor {
+        list: l,
+        key: turns::inner::no_key(),
+    };
     let answer = loop {
         let m = parts::inner::step(base, number, t, h, 157, count, c);
-        let next = m.next;
-        let kind = m.kind;
         reads += m.reads;
-        match kind {
-            PartKind::Stops(a) => {
-                break a;
-            }
+        match m.kind {
+            PartKind::Stops(a) => break a,
             PartKind::Lists(p) => {
                 keep(numbers, count, p);
                 size = size_of(count, size, p);
                 count += 1;
-                c = next;
+                c = m.next;
             }
         }
     };
@@ -132,7 +131,7 @@ fn gather<'a>(
 }
 
 // The parts of an item; without a list there are none.
-#[tactic(auto, using(crate::proofs::Gathers::gathered_none), unfolding(parts::specs::Parts::parts_in))]
+#[tactic(auto, unfolding(parts::specs::Parts::parts_in))]
 fn gathered<'a>(
     base: &'a [u8],
     number: RecordNumber,
@@ -143,18 +142,19 @@ fn gathered<'a>(
 ) -> Gathered
     requires ready { Ready base.now t.now h }
     requires lies { Lies (length base.now) l }
-    requires in_bounds { 785 ≤ length numbers.old }
+    requires numbers_room { 785 ≤ length numbers.old }
     ensures gathers { Gathers (parts_in base.now number (record_of t.now) 157 l) numbers.new result }
-    ensures numbers_len_unchanged { (length numbers.new ≡ length numbers.old) × ((result.reads ≤ 1052929) × (result.count ≤ 157)) }
+    ensures numbers_len_unchanged { length numbers.new ≡ length numbers.old }
+    ensures few_reads { result.reads ≤ 1052929 }
+    ensures few_parts { result.count ≤ 157 }
 {
     if l.is {
         return gather(base, number, t, h, l, numbers);
     }
-    let answer = Ended::Whole;
     Gathered {
         count: 0,
         size: 0,
-        answer,
+        answer: Ended::Whole,
         reads: 0,
     }
 }
@@ -173,16 +173,16 @@ pub fn item_line<'a>(
 ) -> Lined
     requires ready { Ready base.now t.now h }
     requires lies { Lies (length base.now) i.rest }
-    requires in_bounds { (785 ≤ length numbers.old) × (at + 256 ≤ length out.old) }
+    requires numbers_room { 785 ≤ length numbers.old }
+    requires line_room { at + 256 ≤ length out.old }
     ensures line { Put out.old at out.new result.end (item_line base.now number (record_of t.now) i) 256 }
     ensures parts { Gathers (parts_for base.now number (record_of t.now) i) numbers.new result.parts }
-    ensures few { (length numbers.new ≡ length numbers.old) × ((result.parts.reads ≤ 1052929) × (result.parts.count ≤ 157)) }
+    ensures numbers_len_unchanged { length numbers.new ≡ length numbers.old }
+    ensures few_reads { result.parts.reads ≤ 1052929 }
+    ensures few_parts { result.parts.count ≤ 157 }
 {
-    let rest = i.rest;
-    let parts = gathered(base, number, t, h, rest, numbers);
+    let parts = gathered(base, number, t, h, i.rest, numbers);
     let v = contents_of(base, number, t, h, i);
-    let name = v.name;
-    let value = v.value;
-    let end = line::inner::attr_line(out, at, i, name, parts, value);
+    let end = line::inner::attr_line(out, at, i, v.name, parts, v.value);
     Lined { end, parts }
 }
