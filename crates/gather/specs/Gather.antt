@@ -1,12 +1,13 @@
 -- 01, "The listing": the line of an item, from what the layers below define: its name, its value and its parts.
-use Rattle.std.specs.Prelude.{ℕ, ◌+◌, ◌*◌, List, [], ◌∷◌, ◌++◌, length, take, ◌≡◌, Option}
+use Rattle.std.specs.Prelude.{ℕ, ◌*◌, List, [], ◌∷◌, ◌++◌, length, take, ◌≡◌}
+use Rattle.std.specs.Prelude.{Option}
 use Rattle.fields.specs.Pick.{pick}
 use Rattle.fields.specs.Answer.{Answer, ◌⟫◌}
 use Rattle.fields.specs.declared.RecordNumber.{RecordNumber}
 use Rattle.values.specs.Name.{name_of}
 use Rattle.values.specs.Value.{value_of}
-use Rattle.values.specs.declared.Span.{Span}
 use Rattle.values.specs.declared.ValuePlace.{ValuePlace}
+use Rattle.values.specs.declared.Span.{Span}
 use Rattle.lookup.specs.Lookup.{lookup_in}
 use Rattle.turns.specs.declared.Item.{Item}
 use Rattle.parts.specs.Parts as parts

@@ -28,6 +28,7 @@ struct Contents {
 }
 
 // Both from one look at the item's record.
+#[tactic(auto, unfolding(crate::specs::Gather::name_for, crate::specs::Gather::value_for, crate::specs::Gather::record_for))]
 fn contents_of<'a>(
     base: &'a [u8],
     number: RecordNumber,
@@ -39,39 +40,38 @@ fn contents_of<'a>(
     ensures name { told_spanned result.name ≡ name_for base.now number (record_of t.now) i }
     ensures value { told_valued result.value ≡ value_for base.now number (record_of t.now) i }
 {
-    let file = i.file;
-    let attribute = i.attribute;
-    let at = attribute.offset;
-    let p = lookup::inner::lookup(base, number, t, h, file, 0);
-    match p {
-        Placed::Refused(r) => {
-            let name = Spanned::Refused(r);
-            let value = Valued::Refused(r);
-            Contents { name, value }
-        }
+    let at = i.attribute.offset;
+    match lookup::inner::lookup(base, number, t, h, i.file, 0) {
+        Placed::Refused(r) => Contents {
+            name: Spanned::Refused(r),
+            value: Valued::Refused(r),
+        },
         Placed::At(q) => {
             let s = lookup::inner::part(base, t, h, q);
-            let name = values::name(s, file, at);
-            let value = values::value(s, file, at);
-            Contents { name, value }
+            Contents {
+                name: values::name(s, i.file, at),
+                value: values::value(s, i.file, at),
+            }
         }
     }
 }
 
 // The five numbers of a part's line, behind those of the k parts before it.
+#[tactic(auto, using(crate::proofs::Gathers::five_more), unfolding(line::specs::Lines::part_numbers))]
 fn keep(numbers: &mut [u64], k: usize, p: Part)
     requires { 5 * k + 5 ≤ length numbers.old }
-    ensures { (take (5 * (k + 1)) numbers.new ≡ take (5 * k) numbers.old ++ part_numbers p) × (length numbers.new ≡ length numbers.old) }
+    ensures kept { take (5 * (k + 1)) numbers.new ≡ take (5 * k) numbers.old ++ part_numbers p }
+    ensures numbers_len_unchanged { length numbers.new ≡ length numbers.old }
 {
     let at = 5 * k;
-    let file = p.file;
-    let lowest = p.lowest;
-    let runs = p.runs;
-    numbers[at] = file.0;
-    numbers[at + 1] = p.offset as u64;
-    numbers[at + 2] = lowest.0;
-    numbers[at + 3] = runs.from as u64;
-    numbers[at + 4] = runs.bytes as u64;
+    let five = [
+        p.file.0,
+        p.offset as u64,
+        p.lowest.0,
+        p.runs.from as u64,
+        p.runs.bytes as u64,
+    ];
+    numbers[at..at + 5].copy_from_slice(&five);
 }
 
 // The size of the first part, at the first part.
@@ -94,30 +94,31 @@ fn gather<'a>(
     numbers: &mut [u64],
 ) -> Gathered
     requires ready { Ready base.now t.now h }
-    requires from_le_to { (l.from ≤ l.to) × (l.to ≤ length base.now) }
-    requires in_bounds { 785 ≤ length numbers.old }
+    requires order { l.from ≤ l.to }
+    requires most { l.to ≤ length base.now }
+    requires numbers_room { 785 ≤ length numbers.old }
     ensures gathers { Gathers (parts_from base.now number (record_of t.now) 157 l) numbers.new result }
-    ensures numbers_len_unchanged { (length numbers.new ≡ length numbers.old) × ((result.reads ≤ 1052929) × (result.count ≤ 157)) }
+    ensures numbers_len_unchanged { length numbers.new ≡ length numbers.old }
+    ensures few_reads { result.reads ≤ 1052929 }
+    ensures few_parts { result.count ≤ 157 }
 {
     let mut count: usize = 0;
     let mut size: u64 = 0;
     let mut reads: u64 = 0;
-    let key = turns::inner::no_key();
-    let mut c = Cursor { list: l, key };
+    let mut c = Cursor {
+        list: l,
+        key: turns::inner::no_key(),
+    };
     let answer = loop {
         let m = parts::inner::step(base, number, t, h, 157, count, c);
-        let next = m.next;
-        let kind = m.kind;
         reads += m.reads;
-        match kind {
-            PartKind::Stops(a) => {
-                break a;
-            }
+        match m.kind {
+            PartKind::Stops(a) => break a,
             PartKind::Lists(p) => {
                 keep(numbers, count, p);
                 size = size_of(count, size, p);
                 count += 1;
-                c = next;
+                c = m.next;
             }
         }
     };
@@ -130,6 +131,7 @@ fn gather<'a>(
 }
 
 // The parts of an item; without a list there are none.
+#[tactic(auto, unfolding(parts::specs::Parts::parts_in))]
 fn gathered<'a>(
     base: &'a [u8],
     number: RecordNumber,
@@ -140,23 +142,25 @@ fn gathered<'a>(
 ) -> Gathered
     requires ready { Ready base.now t.now h }
     requires lies { Lies (length base.now) l }
-    requires in_bounds { 785 ≤ length numbers.old }
+    requires numbers_room { 785 ≤ length numbers.old }
     ensures gathers { Gathers (parts_in base.now number (record_of t.now) 157 l) numbers.new result }
-    ensures numbers_len_unchanged { (length numbers.new ≡ length numbers.old) × ((result.reads ≤ 1052929) × (result.count ≤ 157)) }
+    ensures numbers_len_unchanged { length numbers.new ≡ length numbers.old }
+    ensures few_reads { result.reads ≤ 1052929 }
+    ensures few_parts { result.count ≤ 157 }
 {
     if l.is {
         return gather(base, number, t, h, l, numbers);
     }
-    let answer = Ended::Whole;
     Gathered {
         count: 0,
         size: 0,
-        answer,
+        answer: Ended::Whole,
         reads: 0,
     }
 }
 
 // The line of an item, with its parts gathered for the lines behind it.
+#[tactic(auto, using(crate::proofs::Gathers::item_text), unfolding(crate::specs::Gather::parts_for))]
 pub fn item_line<'a>(
     base: &'a [u8],
     number: RecordNumber,
@@ -169,16 +173,16 @@ pub fn item_line<'a>(
 ) -> Lined
     requires ready { Ready base.now t.now h }
     requires lies { Lies (length base.now) i.rest }
-    requires in_bounds { (785 ≤ length numbers.old) × (at + 256 ≤ length out.old) }
+    requires numbers_room { 785 ≤ length numbers.old }
+    requires line_room { at + 256 ≤ length out.old }
     ensures line { Put out.old at out.new result.end (item_line base.now number (record_of t.now) i) 256 }
     ensures parts { Gathers (parts_for base.now number (record_of t.now) i) numbers.new result.parts }
-    ensures few { (length numbers.new ≡ length numbers.old) × ((result.parts.reads ≤ 1052929) × (result.parts.count ≤ 157)) }
+    ensures numbers_len_unchanged { length numbers.new ≡ length numbers.old }
+    ensures few_reads { result.parts.reads ≤ 1052929 }
+    ensures few_parts { result.parts.count ≤ 157 }
 {
-    let rest = i.rest;
-    let parts = gathered(base, number, t, h, rest, numbers);
+    let parts = gathered(base, number, t, h, i.rest, numbers);
     let v = contents_of(base, number, t, h, i);
-    let name = v.name;
-    let value = v.value;
-    let end = line::inner::attr_line(out, at, i, name, parts, value);
+    let end = line::inner::attr_line(out, at, i, v.name, parts, v.value);
     Lined { end, parts }
 }

@@ -56,8 +56,10 @@ pub fn next<'a>(base: &'a [u8], number: RecordNumber, t: &'a [u8], h: TableHeade
 pub fn first_refused(r: Refusal, reads: u64) -> First
     ensures { told_first result ≡ counted_item (refuses r) reads }
 {
-    let answer = FirstItem::Refused(r);
-    First { answer, reads }
+    First {
+        answer: FirstItem::Refused(r),
+        reads,
+    }
 }
 
 // The first item of a type, from fresh on: an item of unknown type is 6, the end is 18.

@@ -53,21 +53,12 @@ pub fn fresh(s: &[u8]) -> State
 pub fn inside(s: &[u8], number: RecordNumber, l: Rest) -> Opened
     ensures { told_opened result ≡ inside_of s.now number l }
 {
-    if l.is {
-        if l.to < l.from {
-            return Opened::Refused(Refusal {
-                number: 22,
-                file: number,
-                place: 0,
-            });
-        }
-        if s.len() < l.to {
-            return Opened::Refused(Refusal {
-                number: 22,
-                file: number,
-                place: 0,
-            });
-        }
+    if l.is && (l.to < l.from || s.len() < l.to) {
+        return Opened::Refused(Refusal {
+            number: 22,
+            file: number,
+            place: 0,
+        });
     }
     Opened::Passed
 }
@@ -75,9 +66,8 @@ pub fn inside(s: &[u8], number: RecordNumber, l: Rest) -> Opened
 fn refused(r: Refusal, w: State) -> Walked
     ensures { told_next result ≡ leaves (refuses r) w 0 }
 {
-    let answer = ItemStep::Refused(r);
     Walked {
-        answer,
+        answer: ItemStep::Refused(r),
         left: w,
         reads: 0,
     }
@@ -88,16 +78,12 @@ fn refused(r: Refusal, w: State) -> Walked
 pub fn next<'a>(base: &'a [u8], number: RecordNumber, t: &'a [u8], w: State) -> Walked
     ensures { told_next result ≡ next_of base.now number t.now w }
 {
-    let a = table::opening(base, number, t);
-    match a {
+    match table::opening(base, number, t) {
         Tested::Refused(r) => refused(r, w),
-        Tested::Sound(h) => {
-            let i = inside(base, number, w.list);
-            match i {
-                Opened::Refused(r) => refused(r, w),
-                Opened::Passed => inner::next(base, number, t, h, w),
-            }
-        }
+        Tested::Sound(h) => match inside(base, number, w.list) {
+            Opened::Refused(r) => refused(r, w),
+            Opened::Passed => inner::next(base, number, t, h, w),
+        },
     }
 }
 
@@ -106,8 +92,7 @@ pub fn next<'a>(base: &'a [u8], number: RecordNumber, t: &'a [u8], w: State) -> 
 pub fn first_of<'a>(base: &'a [u8], number: RecordNumber, t: &'a [u8], ty: u32) -> First
     ensures { told_first result ≡ first_of base.now number t.now ty }
 {
-    let a = table::opening(base, number, t);
-    match a {
+    match table::opening(base, number, t) {
         Tested::Refused(r) => inner::first_refused(r, 0),
         Tested::Sound(h) => inner::first_of(base, number, t, h, ty),
     }

@@ -1,11 +1,8 @@
 -- A front of a list that was filled, put back: the whole list is filled, its tail unchanged.
-use Prim.Native.Nat.{ℕ, ◌+◌, ◌≤◌}
-use mathlib.Core.Path.{◌≡◌, sym, ap, ◌∙◌}
-use mathlib.Core.List.{List, ◌++◌, append_assoc}
-use native.Mathlib.Omega.{arith}
-use lib.ListN.{length, take, drop, length-append, length-drop, take-append-drop}
-use lib.Seq.{drop-append-le}
-use Rattle.parts.specs.Parts.{Listing, filled}
+use Rattle.std.proofs.Common.{◌≡◌, ℕ, ◌+◌, ◌≤◌, min, List, ◌++◌, length, take, drop, sym, ap, ◌∙◌, arith, append_assoc, length-append, length-drop, length-take, take-append-drop}
+use Rattle.std.proofs.Math.Seq.{drop-append-le}
+use Rattle.parts.specs.Parts.{Listing, filled, blank_parts, Collects}
+use Rattle.parts.proofs.Fills.{blank_size}
 use Rattle.part.specs.declared.Part.{Part}
 use Rattle.lent.specs.Lent.{Fills}
 use Rattle.lent.specs.declared.Filled.{Filled}
@@ -32,3 +29,12 @@ fronted {l} xs zs k h f = record {
   answer = f.answer;
   reads = f.reads;
 }
+
+-- the front of a blank array filled, with room for as many parts as it has records
+pub collected : (f : ℕ → Listing) (room k : ℕ) (xs zs : List Part) (r : Filled) → k ≡ min room 157 → xs ≡ blank_parts
+    → length zs ≡ length (take k xs) → Fills (f (length (take k xs))) (take k xs) zs r
+    → Collects (f (min room 157)) blank_parts (record { parts = zs ++ drop k xs; count = r.count; answer = r.answer; reads = r.reads })
+collected f room k xs zs r e b z h =
+    let w = fronted xs zs k z h in
+    let a : length (take k xs) ≡ min room 157 = omega (arith, length-take k xs, ap length b, blank_size) in
+    rw (← a, ← b) (record { parts = w.list; count = w.count; answer = w.answer; reads = w.reads })

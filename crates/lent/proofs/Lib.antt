@@ -1,5 +1,4 @@
--- What the two walks lean on, and that the contract settles its result.
+-- What the filling of a lent list leans on, and that the contract settles its result.
 pub mod Kept
-mod Look
 pub mod Front
 pub mod Settled

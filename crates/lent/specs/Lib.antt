@@ -1,2 +1,2 @@
--- Parts written to a lent list: what is reported and what then stands in the list; and what the steps on the way say.
+-- Parts written to a lent list: what is reported and what then stands in the list.
 pub mod Lent

@@ -22,11 +22,11 @@ use Rattle.lines.specs.declared.Told.{Told}
 page-full : (room : ℕ) (ls : List Text) → room < 256 → page_of room ls ≡ page [] ls (any ls)
 unfolding page_of any
 page-full room [] l = refl
-page-full room (x ∷ ls) l = sym (yes _ _ _ (lt-ltb room 256 l) refl)
+page-full room (x ∷ ls) l = rw (lt-ltb room 256 l)
 
 page-more : (room : ℕ) (x : Text) (ls : List Text) → 256 ≤ room → page_of room (x ∷ ls) ≡ onto x (page_of (room - length x) ls)
 unfolding page_of
-page-more room x ls l = sym (no _ _ _ (le-ltb room 256 l) refl)
+page-more room x ls l = rw (le-ltb room 256 l)
 
 page-end : (room : ℕ) → page_of room [] ≡ page [] [] false
 unfolding page_of
@@ -65,14 +65,14 @@ module _ (lines : List Text) (d out : List ℕ) (at : ℕ) (left : List Text) (h
       let z = h.long in let f = h.fits in let k = p.most in
       let w = put-length p (omega arith) (omega arith) in
       let j : length d - at - length t.line ≡ length d - r.end = omega arith in
-      let b : left ≡ t.line ∷ after = t.told ∙ sym (yes _ _ _ m refl) in
+      let b : left ≡ t.line ∷ after = t.told ∙ sym (yes r.more (t.line ∷ after) [] m refl) in
       stepped t.line after p (omega arith)
       (ap (page_of (length d - at)) b ∙ page-more (length d - at) t.line after (omega arith) ∙ ap (λ (x : ℕ). onto t.line (page_of x after)) j)
 
   -- one line fewer is to come
   pub fewer : {e : List ℕ} {after : List Text} {r : Told} → Tells left after out at e r → r.more ≡ true → length after < length left
   fewer {e} {after} {r} t m =
-      let b : left ≡ t.line ∷ after = t.told ∙ sym (yes _ _ _ m refl) in
+      let b : left ≡ t.line ∷ after = t.told ∙ sym (yes r.more (t.line ∷ after) [] m refl) in
       let k : length left ≡ suc (length after) = ap length b in
       omega arith
 
@@ -103,7 +103,7 @@ ended lines d out at left h {e} {after} {r} l t m =
     let w = put-length p (omega arith) (omega arith) in
     let v : length t.line ≡ 0 = ap length s.0 in
     let j : r.end ≡ at = omega arith in
-    let b : left ≡ [] = t.told ∙ sym (no _ _ _ m refl) in
+    let b : left ≡ [] = t.told ∙ sym (no r.more (t.line ∷ after) [] m refl) in
     let q : page_of (length d - at) left ≡ onto t.line (page_of (length d - r.end) after) =
     ap (page_of (length d - at)) (b ∙ sym s.1) ∙ ap (λ (x : ℕ). page_of (length d - x) after) (sym j) ∙ ap (λ (x : Text). onto x (page_of (length d - r.end) after)) (sym s.0) in
     let g = stepped lines d out at left h t.line after p (omega arith) q in

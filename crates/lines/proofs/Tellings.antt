@@ -4,7 +4,8 @@ use native.Mathlib.Omega.{arith}
 use mathlib.Core.Path.{◌≡◌, refl, sym, ap, ◌∙◌, subst}
 use mathlib.Core.Bool.{true, false}
 use mathlib.Core.List.{List, [], ◌∷◌, ◌++◌, map, append-nil}
-use Rattle.std.specs.Prelude.{Some}
+use Rattle.std.specs.Prelude.{None, Some}
+use lib.Dec.{eqb}
 use lib.ListN.{length, take, drop}
 use lib.Seq.{drop-drop}
 use Rattle.fields.specs.Pick.{pick}
@@ -18,7 +19,7 @@ use Rattle.table.specs.Held.{record_at, record_of, held_at, base_row, base_of}
 use Rattle.table.specs.Layout.{row_at}
 use Rattle.table.specs.declared.TableHeader.{TableHeader}
 use Rattle.table.proofs.Sound as tables
-use Rattle.table.proofs.Holds.{base-held, none-some, the-some}
+use Rattle.table.proofs.Holds.{base-held, None-Some, the-Some}
 use Rattle.turns.specs.State.{Lies, Ready, state, no_list, no_key}
 use Rattle.items.specs.Start.{fresh_of}
 use Rattle.items.specs.Items.{Left, most_reads, next_in, told_next}
@@ -141,7 +142,7 @@ module _ (t : List ℕ) (m : Making) (going : Going t m) where
 -- the base row's own index
 base-is : (h : TableHeader) (i : ℕ) → base_row h ≡ Some i → h.base ≡ i
 unfolding base_row
-base-is h i e = the-some (not_first _ _ _ _ e none-some).1
+base-is h i e = the-Some (not_first (eqb h.base h.count) None (Some h.base) (Some i) e None-Some).1
 
 -- the first line of a base record
 begun-comes : (t : List ℕ) (h : TableHeader) (ns : List ℕ) (end : ℕ) (a : Answer Unit)
@@ -263,5 +264,4 @@ sound-at t m e h = subst (SoundAt t m) e h
 
 -- nothing was to come
 pub nothing-told : {after : List Text} {d : List ℕ} {at : ℕ} {before : List Text} (m : Making) → before ≡ [] → after ≡ [] → Tells before after d at d (record { next = m; end = at; more = false })
-unfolding pick
 nothing-told {after} {d} {at} m b a = record { line = []; told = b; put = record { is = sym (append-nil (take at d)); long = refl; least = omega arith; most = omega arith; tail = refl }; still = λ f. (refl, a) }

@@ -30,8 +30,8 @@ pub data Calls (t : List ℕ) : Making → List ℕ → List Text → Type 0 whe
 
 -- they told what was to come
 pub calls-tell : (t : List ℕ) {m : Making} {ns : List ℕ} {ls : List Text} → Calls t m ns ls → to_come t m ns ≡ ls
-calls-tell t (last m ns ns' d e' at r w e) = w.told ∙ sym (no _ _ _ e refl)
-calls-tell t (again m ns ns' d e' at r ls w e c) = w.told ∙ sym (yes _ _ _ e refl) ∙ ap (λ (x : List Text). w.line ∷ x) (calls-tell t c)
+calls-tell t (last m ns ns' d e' at r w e) = w.told ∙ sym (no r.more (w.line ∷ to_come t r.next ns') [] e refl)
+calls-tell t (again m ns ns' d e' at r ls w e c) = w.told ∙ sym (yes r.more (w.line ∷ to_come t r.next ns') [] e refl) ∙ ap (λ (x : List Text). w.line ∷ x) (calls-tell t c)
 
 -- repeated calls from the start give exactly the listing
 pub listing-told : (t : List ℕ) {ns : List ℕ} {ls : List Text} → Calls t starting ns ls → ls ≡ listing_of t

@@ -95,9 +95,7 @@ fn part_line(m: Making, numbers: &mut [u64], out: &mut [u8], at: usize) -> Told
     ensures put { Put out.old at out.new result.end (part_line_of (take 5 (drop (5 * m.shown) numbers.old))) 256 }
     ensures numbers_unchanged { (numbers.new ≡ numbers.old) × (result ≡ showing m result.end) }
 {
-    let from = 5 * m.shown;
-    let to = from + 5;
-    let end = line::inner::part_line(out, at, &numbers[from..to]);
+    let end = line::inner::part_line(out, at, &numbers[5 * m.shown..][..5]);
     let h = m.h;
     let walk = m.walk;
     let stage = Stage::Items;
@@ -147,6 +145,7 @@ fn refused(out: &mut [u8], at: usize) -> Told
 }
 
 // Whether the walk of a base record begins, or the listing stops by an opening check.
+#[tactic(auto, unfolding(crate::specs::Making::stage_of))]
 fn stage_of(o: Opened) -> Stage
     ensures { result ≡ stage_of (told_opened o) }
 {
@@ -241,6 +240,7 @@ pub fn next<'a>(t: &'a [u8], m: Making, numbers: &mut [u64], out: &mut [u8], at:
 }
 
 // Whether a listing has lines to come.
+#[tactic(auto, unfolding(crate::specs::Making::any_at))]
 fn is_more(m: Making) -> bool
     ensures { result ≡ any_at m.stage }
 {

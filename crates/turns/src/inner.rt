@@ -42,13 +42,7 @@ pub fn no_key() -> Key
 fn agrees_with(key: Key, e: Entry, part: &[u8]) -> bool
     ensures { result ≡ agrees key e part.now }
 {
-    if key.is {
-        if e.instance == key.instance {
-            return e.ty == key.ty;
-        }
-        return false;
-    }
-    false
+    key.is && e.instance == key.instance && e.ty == key.ty
 }
 
 // The key that an entry leaves.
@@ -67,8 +61,11 @@ fn stop(a: ItemStep, left: State, reads: u64) -> Turn
     ensures result_value { told_turn result ≡ answers (told_item a) left reads }
     ensures reads_value { result.reads ≡ reads }
 {
-    let kind = Kind::Stop(a);
-    Turn { kind, left, reads }
+    Turn {
+        kind: Kind::Stop(a),
+        left,
+        reads,
+    }
 }
 
 fn refuse(r: Refusal, left: State, reads: u64) -> Turn
@@ -82,8 +79,11 @@ fn pass(left: State, reads: u64) -> Turn
     ensures result_value { told_turn result ≡ passes left reads }
     ensures reads_value { result.reads ≡ reads }
 {
-    let kind = Kind::Pass;
-    Turn { kind, left, reads }
+    Turn {
+        kind: Kind::Pass,
+        left,
+        reads,
+    }
 }
 
 // The state past an entry, with a key.
@@ -96,22 +96,16 @@ fn past_with(w: State, e: Entry, key: Key) -> State
         from: w.list.from + e.length,
         to: w.list.to,
     };
-    State {
-        raw: w.raw,
-        list,
-        key,
-    }
+    State { list, key, ..w }
 }
 
 // The state with its list closed.
 fn close(w: State) -> State
     ensures { result ≡ closed w }
 {
-    let key = w.key;
     State {
-        raw: w.raw,
         list: no_list(),
-        key,
+        ..w
     }
 }
 
@@ -125,24 +119,21 @@ fn sought_turn(t: &[u8], number: RecordNumber, part: &[u8], w: State, e: Entry) 
 {
     let f = raw::inner::find(t, e.file, e.ty, e.instance, number, w.list.from);
     let reads = f.reads + 1;
-    let a = f.answer;
-    let file = e.file;
-    match a {
+    match f.answer {
         Checked::Refused(r) => refuse(r, past_with(w, e, no_key()), reads),
         Checked::Given(h) => {
             if h.resident {
                 let i = Item {
-                    file,
+                    file: e.file,
                     attribute: h,
                     rest: no_list(),
                 };
                 return stop(ItemStep::Given(i), past_with(w, e, no_key()), reads);
             }
-            let rest = w.list;
             let i = Item {
-                file,
+                file: e.file,
                 attribute: h,
-                rest,
+                rest: w.list,
             };
             stop(ItemStep::Given(i), past_with(w, e, key_of(e, part)), reads)
         }
@@ -165,8 +156,7 @@ fn looked_turn<'a>(
     ensures result_value { told_turn result ≡ looked_turn base.now number (record_of t.now) part.now w e (lookup_in base.now number (record_of t.now) e.file w.list.from) }
     ensures reads_bound { result.reads ≤ 257 }
 {
-    let p = lookup::inner::lookup(base, number, t, h, e.file, w.list.from);
-    match p {
+    match lookup::inner::lookup(base, number, t, h, e.file, w.list.from) {
         Placed::Refused(r) => refuse(r, past_with(w, e, no_key()), 1),
         Placed::At(q) => sought_turn(lookup::inner::part(base, t, h, q), number, part, w, e),
     }
@@ -188,22 +178,19 @@ fn given_turn<'a>(
     ensures result_value { told_turn result ≡ given_turn base.now number (record_of t.now) part.now w e }
     ensures reads_bound { result.reads ≤ 257 }
 {
-    let key = w.key;
-    if known_type(e.ty) {
-        if e.file.0 == number.0 {
-            return pass(past_with(w, e, key), 1);
-        }
-        if agrees_with(key, e, part) {
-            return pass(past_with(w, e, key), 1);
-        }
-        return looked_turn(base, number, t, h, part, w, e);
+    let past = past_with(w, e, w.key);
+    if !known_type(e.ty) {
+        let r = Refusal {
+            number: 6,
+            file: number,
+            place: w.list.from,
+        };
+        return refuse(r, past, 1);
     }
-    let r = Refusal {
-        number: 6,
-        file: number,
-        place: w.list.from,
-    };
-    refuse(r, past_with(w, e, key), 1)
+    if e.file.0 == number.0 || agrees_with(w.key, e, part) {
+        return pass(past, 1);
+    }
+    looked_turn(base, number, t, h, part, w, e)
 }
 
 // One entry of the open list.
@@ -221,11 +208,8 @@ pub fn entry_turn<'a>(
     ensures result_value { told_turn result ≡ entry_turn base.now number (record_of t.now) w }
     ensures reads_bound { result.reads ≤ 257 }
 {
-    let from = w.list.from;
-    let to = w.list.to;
-    let part = &base[from..to];
-    let a = list::header(part, number, from);
-    match a {
+    let part = &base[w.list.from..w.list.to];
+    match list::header(part, number, w.list.from) {
         EntryStep::End => pass(close(w), 0),
         EntryStep::Refused(r) => refuse(r, w, 0),
         EntryStep::Given(e) => given_turn(base, number, t, h, part, w, e),
@@ -240,46 +224,30 @@ fn taken_turn(base: &[u8], number: RecordNumber, w: State, h: Attribute) -> Turn
     ensures result_value { told_turn result ≡ raw_after base.now number w (gives h) }
     ensures reads_bound { result.reads ≤ 257 }
 {
-    let key = w.key;
-    let raw = w.raw + h.length;
+    let left = State {
+        raw: w.raw + h.length,
+        list: no_list(),
+        ..w
+    };
     if h.ty == 0x20 {
-        let p = values::inner::list_of(base, number, h);
-        match p {
-            Spanned::Refused(r) => {
-                return refuse(
-                    r,
-                    State {
-                        raw,
-                        list: no_list(),
-                        key,
-                    },
-                    1,
-                );
-            }
+        return match values::inner::list_of(base, number, h) {
+            Spanned::Refused(r) => refuse(r, left, 1),
             Spanned::At(p) => {
                 let list = Rest {
                     is: true,
                     from: p.from,
                     to: p.from + p.bytes,
                 };
-                return pass(State { raw, list, key }, 1);
+                pass(State { list, ..left }, 1)
             }
-        }
+        };
     }
     let i = Item {
         file: number,
         attribute: h,
         rest: no_list(),
     };
-    stop(
-        ItemStep::Given(i),
-        State {
-            raw,
-            list: no_list(),
-            key,
-        },
-        1,
-    )
+    stop(ItemStep::Given(i), left, 1)
 }
 
 // One raw attribute.
@@ -289,8 +257,7 @@ pub fn raw_turn(base: &[u8], number: RecordNumber, w: State) -> Turn
     ensures result_value { told_turn result ≡ raw_turn base.now number w }
     ensures reads_bound { result.reads ≤ 257 }
 {
-    let a = raw::inner::step(base, number, w.raw);
-    match a {
+    match raw::inner::step(base, number, w.raw) {
         RawStep::End => stop(ItemStep::End, close(w), 0),
         RawStep::Refused(r) => refuse(r, close(w), 0),
         RawStep::Given(h) => taken_turn(base, number, w, h),

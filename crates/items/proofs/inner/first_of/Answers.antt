@@ -1,5 +1,5 @@
 -- Each turn of the loop is a call of the walk from its state.
-use Rattle.std.proofs.Common.{arith, sym, ap, refl, ◌≡◌}
+use Rattle.std.proofs.Common.{arith, refl}
 use Rattle.fields.specs.Answer.{gives, ends, refuses}
 use Rattle.items.specs.Start.{fresh_of}
 use Rattle.items.specs.Items.{going, leaves}
