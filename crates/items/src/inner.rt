@@ -7,11 +7,11 @@ ghost use Rattle.items.specs.First.{told_first, counted_item, first_in};
 ghost use Rattle.turns.specs.Turn.{told_turn};
 ghost use Rattle.items.specs.Items.{small_step, told_next, most_reads, next_in};
 
-use crate::{First, FirstItem, Walked};
+use crate::{First, Walked};
 use fields::{RecordNumber, Refusal, known_type};
 use table::TableHeader;
 use turns::inner::{entry_turn, raw_turn};
-use turns::{ItemStep, Kind, State, Turn};
+use turns::{Kind, State, Turn};
 
 // One small step: an entry of the open list, else a raw attribute.
 #[tactic(auto, unfolding(crate::specs::Items::small_step))]
@@ -36,7 +36,7 @@ pub fn next<'a>(base: &'a [u8], number: RecordNumber, t: &'a [u8], h: TableHeade
 {
     let mut at = w;
     let mut reads: u64 = 0;
-    loop {
+    'steps: loop {
         let m = small_step(base, number, t, h, at);
         at = m.left;
         reads += m.reads;
@@ -57,7 +57,7 @@ pub fn first_refused(r: Refusal, reads: u64) -> First
     ensures { told_first result ≡ counted_item (refuses r) reads }
 {
     First {
-        answer: FirstItem::Refused(r),
+        answer: Err(r),
         reads,
     }
 }
@@ -69,12 +69,12 @@ pub fn first_of<'a>(base: &'a [u8], number: RecordNumber, t: &'a [u8], h: TableH
 {
     let mut at = crate::fresh(base);
     let mut reads: u64 = 0;
-    loop {
+    'items: loop {
         let n = next(base, number, t, h, at);
         at = n.left;
         reads += n.reads;
         match n.answer {
-            ItemStep::End => {
+            Ok(None) => {
                 let r = Refusal {
                     number: 18,
                     file: number,
@@ -82,22 +82,21 @@ pub fn first_of<'a>(base: &'a [u8], number: RecordNumber, t: &'a [u8], h: TableH
                 };
                 return first_refused(r, reads);
             }
-            ItemStep::Refused(r) => {
-                return first_refused(r, reads);
-            }
-            ItemStep::Given(i) => {
-                if known_type(i.attribute.ty) {
-                    if i.attribute.ty == ty {
-                        let answer = FirstItem::Given(i);
-                        return First { answer, reads };
-                    }
-                } else {
+            Err(r) => return first_refused(r, reads),
+            Ok(Some(i)) => {
+                if !known_type(i.attribute.ty) {
                     let r = Refusal {
                         number: 6,
                         file: i.file,
                         place: i.attribute.offset,
                     };
                     return first_refused(r, reads);
+                }
+                if i.attribute.ty == ty {
+                    return First {
+                        answer: Ok(i),
+                        reads,
+                    };
                 }
             }
         }

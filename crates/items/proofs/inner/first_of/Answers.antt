@@ -9,9 +9,9 @@ use Rattle.items.proofs.Rests.{no-list-lies}
 use Rattle.items.proofs.Firsts.{returned, again}
 use Rattle.items.proofs.inner.first_of.Goals as goal
 
-pub loop-r-init : goal.loop-r-init
+pub items-init : goal.items-init
 unfolding first_in fresh_of
-loop-r-init c =
+items-init c =
     rw c.fresh-at.ensures
     (record {
       same = refl;
@@ -19,46 +19,46 @@ loop-r-init c =
       few = omega (arith, measure-small c.args.base.now (fresh_of c.args.base.now) c.requires.small (no-list-lies _));
     })
 
-pub returns-in-End : goal.returns-in-End
+pub returns-in-Ok-None : goal.returns-in-Ok-None
 unfolding first_after
-returns-in-End c =
-    returned _ _ _ _ (going c.loop-r.at c.loop-r.reads)
+returns-in-Ok-None c =
+    returned _ _ _ _ (going c.items.at c.items.reads)
     (leaves ends c.next-n.result.left c.next-n.result.reads) _
-    c.loop-r.invariant.same (rw c.in-End.is at c.next-n.ensures.result_value) (cc)
+    c.items.invariant.same (rw c.in-Ok-None.field-0-is at (rw c.in-Ok-None.is at c.next-n.ensures.result_value)) (cc)
 
-pub returns-in-Refused : goal.returns-in-Refused
+pub returns-in-Err : goal.returns-in-Err
 unfolding first_after
-returns-in-Refused c =
-    returned _ _ _ _ (going c.loop-r.at c.loop-r.reads)
-    (leaves (refuses c.in-Refused.r) c.next-n.result.left c.next-n.result.reads) _
-    c.loop-r.invariant.same (rw c.in-Refused.is at c.next-n.ensures.result_value) (cc)
+returns-in-Err c =
+    returned _ _ _ _ (going c.items.at c.items.reads)
+    (leaves (refuses c.in-Err.r) c.next-n.result.left c.next-n.result.reads) _
+    c.items.invariant.same (rw c.in-Err.is at c.next-n.ensures.result_value) (cc)
 
 pub returns-then-i-ty : goal.returns-then-i-ty
 unfolding first_after
 returns-then-i-ty c =
-    returned _ _ _ _ (going c.loop-r.at c.loop-r.reads)
-    (leaves (gives c.in-Given.i) c.next-n.result.left c.next-n.result.reads) _
-    c.loop-r.invariant.same (rw c.in-Given.is at c.next-n.ensures.result_value) (grind arith)
+    returned _ _ _ _ (going c.items.at c.items.reads)
+    (leaves (gives c.in-Ok-Some.i) c.next-n.result.left c.next-n.result.reads) _
+    c.items.invariant.same (rw c.in-Ok-Some.field-0-is at (rw c.in-Ok-Some.is at c.next-n.ensures.result_value)) (grind arith)
 
-pub loop-r-smaller : goal.loop-r-smaller
-loop-r-smaller c = next_lower _ _ _ _ _ _ c.in-Given.i (rw c.in-Given.is at c.next-n.ensures.result_value)
+pub items-smaller : goal.items-smaller
+items-smaller c = next_lower _ _ _ _ _ _ c.in-Ok-Some.i (rw c.in-Ok-Some.field-0-is at (rw c.in-Ok-Some.is at c.next-n.ensures.result_value))
 
-pub loop-r-preserved : goal.loop-r-preserved
+pub items-preserved : goal.items-preserved
 unfolding first_after
-loop-r-preserved c =
-    let e = rw c.in-Given.is at c.next-n.ensures.result_value in
-    let d = next_lower _ _ _ _ _ _ c.in-Given.i e in
+items-preserved c =
+    let e = rw c.in-Ok-Some.field-0-is at (rw c.in-Ok-Some.is at c.next-n.ensures.result_value) in
+    let d = next_lower _ _ _ _ _ _ c.in-Ok-Some.i e in
     record {
-      same = again _ _ _ _ (going c.loop-r.at c.loop-r.reads) _
-          (leaves (gives c.in-Given.i) c.next-n.result.left c.next-n.result.reads)
-          c.loop-r.invariant.same e (grind arith);
-      lies = next_held _ _ _ _ _ _ _ e c.requires.small c.loop-r.invariant.lies;
+      same = again _ _ _ _ (going c.items.at c.items.reads) _
+          (leaves (gives c.in-Ok-Some.i) c.next-n.result.left c.next-n.result.reads)
+          c.items.invariant.same e (grind arith);
+      lies = next_held _ _ _ _ _ _ _ e c.requires.small c.items.invariant.lies;
       few = omega arith;
     }
 
-pub returns-else-known_type : goal.returns-else-known_type
+pub returns-then-not-known_type : goal.returns-then-not-known_type
 unfolding first_after
-returns-else-known_type c =
-    returned _ _ _ _ (going c.loop-r.at c.loop-r.reads)
-    (leaves (gives c.in-Given.i) c.next-n.result.left c.next-n.result.reads) _
-    c.loop-r.invariant.same (rw c.in-Given.is at c.next-n.ensures.result_value) (grind arith)
+returns-then-not-known_type c =
+    returned _ _ _ _ (going c.items.at c.items.reads)
+    (leaves (gives c.in-Ok-Some.i) c.next-n.result.left c.next-n.result.reads) _
+    c.items.invariant.same (rw c.in-Ok-Some.field-0-is at (rw c.in-Ok-Some.is at c.next-n.ensures.result_value)) (grind arith)
