@@ -19,8 +19,8 @@ use Rattle.turns.specs.declared.Item.{Item}
 use Rattle.items.proofs.Kept.{falls}
 use Rattle.parts.specs.Parts.{parts_in}
 use Rattle.bound.specs.Run.{Spot, spot, count_after, count_next, count_run, count_from, count_of, spots_of, items_after, items_next, items_run, items_of}
-use Rattle.bound.proofs.Value.{most, val-fresh}
-use Rattle.bound.proofs.Facts.{Sized}
+use Rattle.bound.proofs.Value.{val-fresh}
+use Rattle.bound.specs.Whole.{most, Sized}
 use Rattle.bound.proofs.Rising.{here, Rising, rising-lo, rising-append}
 use Rattle.bound.proofs.Steps.{left, worth, Stands, Goes, unlisted, Good, step-good}
 

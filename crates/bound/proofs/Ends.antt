@@ -8,13 +8,15 @@ use native.Mathlib.Omega.{arith}
 use Rattle.fields.specs.Answer.{Answer, gives, ends, refuses}
 use Rattle.fields.specs.declared.RecordNumber.{RecordNumber}
 use Rattle.fields.specs.declared.Refusal.{Refusal}
+use Rattle.items.specs.Start.{fresh_of}
 use Rattle.items.specs.Items.{measure, next_in}
 use Rattle.turns.specs.declared.State.{State}
 use Rattle.turns.specs.declared.Item.{Item}
 use Rattle.items.proofs.Kept.{next-sinks}
 use Rattle.parts.specs.Parts.{parts_in}
-use Rattle.bound.specs.Run.{Spot, count_after, count_next, count_run, count_from, spots_of, items_after, items_next, items_run}
-use Rattle.bound.specs.Trail.{Read, next_trail, parts_trail, trail_after, trail_next, trail_from}
+use Rattle.bound.specs.Run.{Spot, count_after, count_next, count_run, count_from, count_of, spots_of, items_after, items_next, items_run, items_of}
+use Rattle.bound.specs.Trail.{Read, next_trail, parts_trail, trail_after, trail_next, trail_from, trail_of}
+use Rattle.bound.specs.Whole.{Enough}
 
 module _ (s : List ℕ) (n : RecordNumber) (look : RecordNumber → Option (List ℕ)) (room : ℕ) where
   -- what holds of calls that go on from an item with a lower measure
@@ -88,3 +90,14 @@ module _ (s : List ℕ) (n : RecordNumber) (look : RecordNumber → Option (List
   pub count-refusal : (k : ℕ) (w : State) (r : Refusal) → (next_in s n look w).answer ≡ refuses r → count_from s n look room k w ≡ k + (next_in s n look w).reads
   unfolding count_from count_run count_next count_after
   count-refusal k w r e = ap (count_after s n look room (count_run s n look room (measure s w)) (k + (next_in s n look w).reads) (next_in s n look w).left) e
+
+  -- so the whole listing is what any number of calls gives that is enough
+  pub ends_there : (f : ℕ) → measure s (fresh_of s) < f → Enough s n look room f
+  unfolding count_of count_from trail_of items_of
+  ends_there f h =
+      let m = measure s (fresh_of s) in
+      record {
+        count = count-enough f (suc m) 0 (fresh_of s) h (lt-suc_self m);
+        trail = trail-enough f (suc m) (fresh_of s) h (lt-suc_self m);
+        items = items-enough f (suc m) (fresh_of s) h (lt-suc_self m);
+      }

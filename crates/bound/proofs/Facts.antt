@@ -1,6 +1,6 @@
 -- What the layers below promise to the bound: a lookup's search reads no more than a sixteenth of the record's length, and an entry is at least 26 long and ends inside its list.
 use Prim.Native.Nat.{ℕ, ◌+◌, ◌/◌, ◌≤◌}
-use mathlib.Core.Path.{◌≡◌, refl, subst}
+use mathlib.Core.Path.{◌≡◌, refl, sym, subst}
 use mathlib.Core.Logic.{⊎_elim}
 use mathlib.Core.Bool.{Bool, true, false}
 use mathlib.Core.List.{List}
@@ -15,6 +15,9 @@ use Rattle.fields.specs.declared.RecordNumber.{RecordNumber}
 use Rattle.fields.specs.declared.Refusal.{Refusal}
 use Rattle.fields.proofs.Cases.{either}
 use Rattle.raw.specs.Find.{find_of}
+use Rattle.raw.specs.Step.{step_at}
+use Rattle.raw.specs.declared.Attribute.{Attribute}
+use Rattle.raw.proofs.Given.{of-step}
 use Rattle.raw.proofs.Finds.{few-reads}
 use Rattle.list.specs.Entry.{entry_of}
 use Rattle.list.specs.declared.Entry.{Entry}
@@ -25,10 +28,14 @@ use Rattle.lookup.proofs.Looks.{sought}
 use Rattle.turns.specs.State.{part_of}
 use Rattle.turns.specs.declared.Rest.{Rest}
 use Rattle.turns.proofs.Turns.{entry-inside}
+use Rattle.bound.specs.Whole.{Sized, ReadAt}
 
--- no record that is looked up is longer than the base record
-abbrev pub Sized : List ℕ → (RecordNumber → Option (List ℕ)) → Type 0
-Sized s look = (w : RecordNumber) (b : List ℕ) → look w ≡ some b → length b ≤ length s
+-- what a step of the raw walk gives is read at its place
+pub read_at : (s : List ℕ) (n : RecordNumber) (at : ℕ) (h : Attribute) → step_at s n at ≡ gives h → ReadAt s n at h
+read_at s n at h e = let g = of-step s n at h e in record { given = e; least = g.least; inside = g.most }
+
+pub read_there : (s : List ℕ) (n : RecordNumber) (at : ℕ) (h : Attribute) → step_at s n at ≡ gives h → ReadAt s n h.offset h
+read_there s n at h e = subst (λ (x : ℕ). ReadAt s n x h) (sym (of-step s n at h e).stands) (read_at s n at h e)
 
 module _ (s : List ℕ) (n : RecordNumber) (look : RecordNumber → Option (List ℕ)) (z : Sized s look) where
   looked-sized : (w : RecordNumber) (at : ℕ) (t : List ℕ) → lookup_in s n look w at ≡ gives t → length t ≤ length s

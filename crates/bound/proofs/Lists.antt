@@ -25,14 +25,7 @@ use Rattle.turns.specs.State.{part_of}
 use Rattle.turns.specs.Turn.{Small, passes, answers, closed, past, found_turn, sought_turn, looked_turn, given_turn, entry_after, entry_turn, list_turn, raw_after, raw_turn}
 use Rattle.items.specs.Items.{small_step}
 use Rattle.turns.specs.declared.State.{State}
-
--- from w to v the raw walk goes on, or stands and an open list is the one that was open
-abbrev pub Held : State → State → Type 0
-Held w v = (w.raw < v.raw) ⊎ ((w.raw ≡ v.raw) × (v.list.is ≡ true → (w.list.is ≡ true) × (w.list.to ≡ v.list.to)))
-
-abbrev pub Holds : State → Small → Type 0
-Holds w (passes v k) = Held w v
-Holds w (answers a v k) = Held w v
+use Rattle.bound.specs.Lists.{Held, Holds}
 
 module _ (s : List ℕ) (n : RecordNumber) (look : RecordNumber → Option (List ℕ)) (w : State) where
   closed-held : Held w (closed w)

@@ -23,16 +23,11 @@ use Rattle.turns.specs.declared.State.{State}
 use Rattle.turns.specs.declared.Item.{Item}
 use Rattle.items.proofs.Kept.{next-sinks}
 use Rattle.bound.specs.Run.{count_after, count_next, count_run, count_from, count_of}
-use Rattle.bound.proofs.Third.{Third, third, table-sized}
+use Rattle.bound.specs.Printed.{Last, ended, stopped, before, Tells, Listed}
+use Rattle.bound.proofs.Third.{third, table-sized}
 use Rattle.line.specs.Lines.{Text, record_line, end_line, stopped_line}
 use Rattle.lines.specs.Listing.{item_lines, lines_after, lines_next, lines_run, walk_lines, opened_lines, table_refused, base_lines, checked_lines, listing_of}
 use Rattle.gather.specs.Gather.{room, parts_for}
-
--- lines whose last is `end reads c` or `stopped N reads c`
-pub data Last (c : ℕ) : List Text → Type 0 where
-  ended : Last c (end_line c ∷ [])
-  stopped : (r : ℕ) → Last c (stopped_line r c ∷ [])
-  before : (x : Text) (l : List Text) → Last c l → Last c (x ∷ l)
 
 behind : {c : ℕ} (l k : List Text) → Last c k → Last c (l ++ k)
 behind [] k h = h
@@ -57,12 +52,6 @@ module _ (s : List ℕ) (n : RecordNumber) (look : RecordNumber → Option (List
   pub printed : Last (count_of s n look room) (walk_lines s n look 0 (fresh_of s))
   unfolding count_of count_from walk_lines
   printed = printed-run (suc (measure s (fresh_of s))) 0 (fresh_of s) (lt-suc_self (measure s (fresh_of s)))
-
--- the listing of a table t whose base record is s: its last line tells a count, which is at most a + 3e + 2ea
-pub record Tells (s : List ℕ) (l : List Text) : Type 0 where
-  pub count : ℕ
-  pub last : Last count l
-  pub few : count ≤ length s / 16 + 3 * (length s / 26) + 2 * (length s / 26 * (length s / 16))
 
 -- checks 1 and 2 pass or refuse
 abbrev Sure : Answer Unit → Type 0
@@ -89,10 +78,6 @@ module _ (t : List ℕ) (h : Numbers) (q : table_of t ≡ gives h) (b : Held) wh
   }
   opened-tells x ends e y = absurd y
   opened-tells x (refuses r) e y = record { count = 0; last = before x _ (stopped r.number); few = zero-le }
-
--- a listing says that the table is refused, or tells such a count of the table's base record
-abbrev pub Listed : List ℕ → List Text → Type 0
-Listed t l = (l ≡ table_refused) ⊎ ((b : Held) × (base_of t ≡ some b) × Tells b.bytes l)
 
 base-listed : (t : List ℕ) (h : Numbers) → table_of t ≡ gives h → (o : Option Held) → base_of t ≡ o → Listed t (base_lines t h o)
 unfolding base_lines

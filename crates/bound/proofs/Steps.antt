@@ -33,7 +33,8 @@ use Rattle.turns.specs.declared.Rest.{Rest}
 use Rattle.parts.specs.Parts.{parts_in}
 use Rattle.bound.specs.Run.{Spot, spot, gave_in, spots_of}
 use Rattle.bound.proofs.Value.{R, E, R-step, E-step, E-mono, val, val-pass, val-raw, val-entry, val-item, val-one, val-some}
-use Rattle.bound.proofs.Facts.{Sized, few, stood, by-test}
+use Rattle.bound.specs.Whole.{Sized}
+use Rattle.bound.proofs.Facts.{few, stood, by-test}
 use Rattle.bound.proofs.Rising as rising
 use Rattle.bound.proofs.Rising.{Rising}
 use Rattle.bound.proofs.Stretch.{here, Run, peel, no-stretch, begun}

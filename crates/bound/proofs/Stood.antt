@@ -3,6 +3,7 @@ use Prim.Native.Nat.{ℕ, zero, suc, ◌+◌}
 use mathlib.Core.Path.{◌≡◌, refl, sym, subst}
 use mathlib.Core.List.{List, [], ◌∷◌, ◌++◌}
 use mathlib.Core.Option.{Option}
+use Rattle.std.specs.List.{AllByRecursion}
 use lib.Dec.{eqb, ltb}
 use Rattle.fields.specs.Known.{known_type}
 use Rattle.turns.specs.Key.{agrees}
@@ -15,7 +16,6 @@ use Rattle.raw.specs.Step.{step_at}
 use Rattle.raw.specs.Find as find
 use Rattle.raw.specs.declared.Attribute.{Attribute}
 use Rattle.raw.proofs.Finds as finds
-use Rattle.raw.proofs.Given.{Given, of-step}
 use Rattle.list.specs.Entry.{entry_of}
 use Rattle.list.specs.declared.Entry.{Entry}
 use Rattle.lookup.specs.Lookup.{lookup_in}
@@ -30,25 +30,13 @@ use Rattle.part.specs.Join.{judge_part, key_for}
 use Rattle.parts.specs.Parts.{Stepped, lists, stops, cursor, step_in}
 use Rattle.parts.specs.declared.Cursor.{Cursor}
 use Rattle.bound.specs.Trail.{Read, own, entry, sought, joined, seen, find_trail, raw_trail, looked_trail, lookup_trail, search_trail, entry_trail, step_trail, next_trail, join_trail, keyed_trail, entered_trail, part_trail, parts_onward, parts_trail_run, parts_trail, trail_after, trail_next, trail_from, trail_of}
+use Rattle.bound.specs.Whole.{Stands}
+use Rattle.bound.proofs.Facts.{read_there}
 use Rattle.bound.proofs.Trails.{trailed}
 
 module _ (s : List ℕ) (n : RecordNumber) (look : RecordNumber → Option (List ℕ)) where
-  -- an attribute of a record that was looked up
-  pub record Elsewhere (file : RecordNumber) (h : Attribute) : Type 0 where
-    pub place : ℕ
-    pub bytes : List ℕ
-    pub looked : lookup_in s n look file place ≡ gives bytes
-    pub given : Given bytes h.offset h
-
-  abbrev pub Stands : Read → Type 0
-  Stands (own h) = Given s h.offset h
-  Stands (entry l e) = entry_of (listPart s l) n l.from ≡ gives e
-  Stands (sought f h) = Elsewhere f h
-  Stands (joined l e) = entry_of (listPart s l) n l.from ≡ gives e
-
   abbrev pub All : List Read → Type 0
-  All [] = Unit {0}
-  All (x ∷ l) = Stands x × All l
+  All = AllByRecursion (Stands s n look)
 
   all_append : (l k : List Read) → All l → All k → All (l ++ k)
   all_append [] k a b = b
@@ -59,8 +47,7 @@ module _ (s : List ℕ) (n : RecordNumber) (look : RecordNumber → Option (List
     seen_all : (p : ℕ) (a : Answer Attribute) → step_at t e.file p ≡ a → All (seen e.file a)
     unfolding seen
     seen_all p (gives h) g =
-        let w = of-step t e.file p h g in
-        (record { place = place; bytes = t; looked = q; given = subst (λ (x : ℕ). Given t x h) (sym w.stands) w }, tt)
+        (record { place = place; bytes = t; looked = q; read = read_there t e.file p h g }, tt)
     seen_all p ends g = tt
     seen_all p (refuses r) g = tt
 
@@ -91,7 +78,7 @@ module _ (s : List ℕ) (n : RecordNumber) (look : RecordNumber → Option (List
 
   raw-all : (w : State) (a : Answer Attribute) → step_at s n w.raw ≡ a → All (raw_trail a)
   unfolding raw_trail
-  raw-all w (gives h) e = let g = of-step s n w.raw h e in (subst (λ (x : ℕ). Given s x h) (sym g.stands) g, tt)
+  raw-all w (gives h) e = (read_there s n w.raw h e, tt)
   raw-all w ends e = tt
   raw-all w (refuses r) e = tt
 

@@ -27,7 +27,8 @@ use Rattle.part.specs.declared.Part.{Part}
 use Rattle.parts.specs.declared.Cursor.{Cursor}
 use Rattle.bound.specs.Run.{Spot, spot, gave_after, gave_run, gave_from, gave_in}
 use Rattle.bound.proofs.Value.{E, E-step, pay-part, pay-last}
-use Rattle.bound.proofs.Facts.{Sized, few, stood}
+use Rattle.bound.specs.Whole.{Sized}
+use Rattle.bound.proofs.Facts.{few, stood}
 use Rattle.bound.proofs.Rising as rising
 use Rattle.bound.proofs.Rising.{Rising, rising-lo}
 use Rattle.bound.proofs.Keys.{key_set, first_key, key-stays, Joins, joins}

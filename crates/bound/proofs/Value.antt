@@ -2,6 +2,7 @@
 use Prim.Native.Nat.{ℕ, ◌+◌, ◌*◌, ◌/◌, ◌≤◌}
 use native.Mathlib.Nat.{mul-le-mul_right}
 use native.Mathlib.Omega.{arith}
+use Rattle.bound.specs.Whole.{most}
 
 -- how many attributes, and how many entries, fit in n bytes
 unfoldable pub R : ℕ → ℕ
@@ -64,13 +65,9 @@ pay-part A n c x y z hn hx hc = omega (arith, mul-le-mul_right (1 + A) hx)
 pub pay-last : (A c x y : ℕ) → c ≤ A + 1 → x + 1 ≤ y → c + x * (1 + A) ≤ 1 + y * (1 + A)
 pay-last A c x y hc hx = omega (arith, mul-le-mul_right (1 + A) hx)
 
--- "a + 3e + 2ea" for m bytes
-unfoldable pub most : ℕ → ℕ
-most m = m / 16 + 3 * (m / 26) + 2 * (m / 26 * (m / 16))
-
 -- with no more than m bytes left it is worth no more
 pub val-fresh : (m p q g : ℕ) → p ≤ m → q ≤ m → g ≤ m → val (m / 16) (R p) (E q) (E g) ≤ most m
-unfolding val most
+unfolding val
 val-fresh m p q g hp hq hg =
     let hr : R p ≤ m / 16 = unfold R in omega arith in
     let hx : E q ≤ m / 26 = unfold E in omega arith in
