@@ -11,32 +11,27 @@ pub fn listings_are_bounded()
     ensures lookup { EveryLookup }
     ensures table { EveryTable }
     ensures kilobyte { Every1024 }
-{
-}
+{}
 
 // It comes to the walk's end or its first refusal: more calls would change nothing.
 pub fn listings_end()
     ensures { EveryEnd }
-{
-}
+{}
 
 // The reads that the calls report add up to its count, and any bytes at all have calls that come to an end.
 pub fn calls_are_counted()
     ensures counted { CallsCounted }
     ensures bounded { CallsBounded }
     ensures ended { CallsEnd }
-{
-}
+{}
 
 // The listing prints that count in its last line.
 pub fn listings_tell_their_count()
     ensures walk { WalksTell }
     ensures table { ListingsTell }
-{
-}
+{}
 
 // A list is told by where its attribute ends.
 pub fn lists_are_told_apart()
     ensures { EveryStep }
-{
-}
+{}
