@@ -100,6 +100,7 @@ pub fn tell_search(
 }
 
 // The raw walk from the first attribute on, one line for each answer.
+#[tactic(auto, using(raw::proofs::Given::step_given))]
 pub fn tell_walk(out: &mut impl Write, s: &[u8], number: RecordNumber) -> io::Result<()> {
     let mut at = fields::first_attribute(s);
     loop {
@@ -125,6 +126,7 @@ fn put_spanned(out: &mut impl Write, p: Spanned) -> io::Result<()> {
 }
 
 // The list of the attribute at a place, whatever its type: the walk of items opens lists, so that no call for it is public.
+#[tactic(auto, using(raw::proofs::Given::attributes))]
 pub fn tell_list(
     out: &mut impl Write,
     s: &[u8],
