@@ -37,6 +37,15 @@ pub fn tell_opening(
     }
 }
 
+pub fn tell_known(out: &mut impl Write, ty: u32) -> io::Result<()> {
+    tell_one(out, "is", fields::known_type(ty) as u64, b'\n')
+}
+
+pub fn tell_flags(out: &mut impl Write, flags: u16) -> io::Result<()> {
+    let kept = fields::attribute_flags(flags);
+    tell_one(out, "flags", kept as u64, b'\n')
+}
+
 fn put_attribute(out: &mut impl Write, h: Attribute) -> io::Result<()> {
     let numbers = [
         h.offset as u64,

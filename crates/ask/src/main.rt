@@ -7,7 +7,7 @@ mod answer;
 use fields::RecordNumber;
 use std::io;
 use std::io::Write;
-use words::{Question, tell_one};
+use words::Question;
 
 // One call for each kind of question. A kind that there is not has no answer.
 fn tell_answer(out: &mut impl Write, q: &Question<'_>) -> io::Result<()> {
@@ -17,8 +17,8 @@ fn tell_answer(out: &mut impl Write, q: &Question<'_>) -> io::Result<()> {
     match q.kind {
         0 => answer::tell_header(out, s, number),
         1 => answer::tell_opening(out, s, number, place),
-        2 => tell_one(out, "is", fields::known_type(q.ty) as u64, b'\n'),
-        3 => tell_one(out, "flags", fields::attribute_flags(q.instance) as u64, b'\n'),
+        2 => answer::tell_known(out, q.ty),
+        3 => answer::tell_flags(out, q.instance),
         4 => answer::tell_step(out, s, number, place),
         5 => answer::tell_attribute(out, s, number, place),
         6 => answer::tell_search(out, s, number, place, q.ty, q.instance),

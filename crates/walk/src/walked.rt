@@ -19,7 +19,8 @@ fn put_item(out: &mut impl Write, i: Item) -> io::Result<()> {
     ];
     tell(out, "item", &item, b' ')?;
     let l = i.rest;
-    tell(out, "rest", &[l.is as u64, l.from as u64, l.to as u64], b' ')
+    let rest = [l.is as u64, l.from as u64, l.to as u64];
+    tell(out, "rest", &rest, b' ')
 }
 
 fn put_step(out: &mut impl Write, a: ItemStep) -> io::Result<()> {

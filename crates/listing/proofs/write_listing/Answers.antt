@@ -7,4 +7,4 @@ use Rattle.listing.proofs.write_listing.Goals as goal
 pub loop-listing-smaller : goal.loop-listing-smaller
 loop-listing-smaller g c =
     page-falls (to_come c.args.t.now c.loop-listing.listing c.loop-listing.numbers) c.loop-listing.page
-      c.fill-told.ensures.told (omega (arith, c.loop-listing.invariant.room)) (search rules)
+    c.fill-told.ensures.told (omega (arith, c.loop-listing.invariant.room)) (search rules)
