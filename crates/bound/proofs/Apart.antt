@@ -1,4 +1,5 @@
--- The entries that give parts rise from item to item, so none gives a part to two items; and there is one for each part.
+-- The entries that give parts rise from item to item, so none gives a part to two items; and there is one for each
+-- part.
 use Prim.Native.Nat.{ℕ, zero, suc, ◌+◌, ◌<◌}
 use mathlib.Core.Path.{◌≡◌, refl, sym, ap}
 use mathlib.Core.List.{List, [], ◌∷◌, ◌++◌, Memᴰ}
@@ -48,12 +49,14 @@ later lo hi (l ∷ ls) (suc i) x h p =
     before-trans lo t.mid x (rising-before lo t.mid l t.front) (later t.mid hi ls i x t.back p)
 
 -- behind an entry of one item comes none of a later item
-not-later : (lo hi : Spot) (l : List Spot) (ls : List (List Spot)) (i : ℕ) (x : Spot) → Rising lo (l ++ flat ls) hi → Memᴰ x l → Among ls i x → ⊥
+not-later : (lo hi : Spot) (l : List Spot) (ls : List (List Spot)) (i : ℕ) (x : Spot) → Rising lo (l ++ flat ls) hi
+    → Memᴰ x l → Among ls i x → ⊥
 not-later lo hi l ls i x h p q =
     let t = split lo hi l (flat ls) h in
     not_behind x (before-trans (behind x) t.mid x (last lo t.mid x l t.front p) (later t.mid hi ls i x t.back q))
 
-apart_in : (lo hi : Spot) (ls : List (List Spot)) → Rising lo (flat ls) hi → (i j : ℕ) (x : Spot) → Among ls i x → Among ls j x → i ≡ j
+apart_in : (lo hi : Spot) (ls : List (List Spot)) → Rising lo (flat ls) hi → (i j : ℕ) (x : Spot) → Among ls i x
+    → Among ls j x → i ≡ j
 unfolding flat
 apart_in lo hi [] h i j x p q = absurd p
 apart_in lo hi (l ∷ ls) h zero zero x p q = refl
@@ -63,7 +66,8 @@ apart_in lo hi (l ∷ ls) h (suc i) (suc j) x p q = let t = split lo hi l (flat 
 
 module _ (s : List ℕ) (n : RecordNumber) (look : RecordNumber → Option (List ℕ)) (room : ℕ) where
   -- no entry gives a part to two items
-  pub apart : Sized s look → (i j : ℕ) (x : Spot) → PartBy (items_of s n look room) i x → PartBy (items_of s n look room) j x → i ≡ j
+  pub apart : Sized s look → (i j : ℕ) (x : Spot) → PartBy (items_of s n look room) i x
+      → PartBy (items_of s n look room) j x → i ≡ j
   apart z i j x p q =
       let h = all-rise s n look room z in
       let l = items_of s n look room in
@@ -73,20 +77,23 @@ module _ (s : List ℕ) (n : RecordNumber) (look : RecordNumber → Option (List
   Led l (lists p d k) = Leads s n look l p
   Led l (stops a k) = Unit {0}
 
-  after-led : (l : Rest) (e : Entry) → entry_of (listPart s l) n l.from ≡ gives e → (next : Cursor) (a : Answer Part) (k : ℕ) → (part_of s n look e l.from).answer ≡ a
+  after-led : (l : Rest) (e : Entry) → entry_of (listPart s l) n l.from ≡ gives e
+      → (next : Cursor) (a : Answer Part) (k : ℕ) → (part_of s n look e l.from).answer ≡ a
       → Led l (step_after next a k)
   unfolding step_after
   after-led l e q next (gives p) k g = record { entry = e; stands = q; leads = g }
   after-led l e q next ends k g = tt
   after-led l e q next (refuses r) k g = tt
 
-  joined-led : (l : Rest) (e : Entry) → entry_of (listPart s l) n l.from ≡ gives e → (k : ℕ) (next : Cursor) (j : Answer Unit) → Led l (step_joined s n look room k next e l.from j)
+  joined-led : (l : Rest) (e : Entry) → entry_of (listPart s l) n l.from ≡ gives e
+      → (k : ℕ) (next : Cursor) (j : Answer Unit) → Led l (step_joined s n look room k next e l.from j)
   unfolding step_joined step_part
   joined-led l e q k next (gives u) = both (Led l) (ltb k room) _ _ (after-led l e q next _ _ refl) tt
   joined-led l e q k next ends = tt
   joined-led l e q k next (refuses r) = tt
 
-  entered-led : (k : ℕ) (c : Cursor) (a : Answer Entry) → entry_of (listPart s c.list) n c.list.from ≡ a → Led c.list (step_entered s n look room k c (listPart s c.list) a)
+  entered-led : (k : ℕ) (c : Cursor) (a : Answer Entry) → entry_of (listPart s c.list) n c.list.from ≡ a
+      → Led c.list (step_entered s n look room k c (listPart s c.list) a)
   unfolding step_entered step_keyed
   entered-led k c (gives e) q = joined-led c.list e q k _ _
   entered-led k c ends q = tt
@@ -96,7 +103,8 @@ module _ (s : List ℕ) (n : RecordNumber) (look : RecordNumber → Option (List
   unfolding step_in
   step-led k c = entered-led k c _ refl
 
-  each_after : (l : Rest) (x : Stepped) → Led l x → (on : Cursor → Listing) (gave : Cursor → List Rest) → ((d : Cursor) → Each s n look (gave d) (on d).parts)
+  each_after : (l : Rest) (x : Stepped) → Led l x → (on : Cursor → Listing) (gave : Cursor → List Rest)
+      → ((d : Cursor) → Each s n look (gave d) (on d).parts)
       → Each s n look (gave_after s n look room gave l x) (parts_after on x).parts
   unfolding gave_after parts_after
   each_after l (lists p d k) h on gave ih = (h, ih d)

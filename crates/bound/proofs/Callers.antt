@@ -1,4 +1,5 @@
--- Whoever calls `next` from a fresh walk to the end or the first refusal, calls `parts` once for each item, and adds up the reads reported, gets the count of the whole listing.
+-- Whoever calls `next` from a fresh walk to the end or the first refusal, calls `parts` once for each item, and adds
+-- up the reads reported, gets the count of the whole listing.
 use Prim.Native.Nat.{ℕ, zero, suc, ◌+◌, ◌<◌, ◌≤◌, zero-le}
 use native.Mathlib.Nat.{not-suc-le-zero, lt-suc_self}
 use mathlib.Core.Path.{◌≡◌, refl, sym, ap, ◌∙◌, subst}
@@ -10,7 +11,6 @@ use lib.ListN.{length}
 use lib.Dec.{ltb}
 use Rattle.fields.specs.Answer.{Answer, gives, ends, refuses, ◌⟫◌}
 use Rattle.fields.specs.declared.RecordNumber.{RecordNumber}
-use Rattle.fields.specs.declared.Refusal.{Refusal}
 use Rattle.fields.proofs.Cases.{yes, no}
 use Rattle.fields.proofs.Answers.{ended-given, refused-given}
 use Rattle.table.specs.Check.{open_table}
@@ -59,7 +59,8 @@ module _ (s : List ℕ) (n : RecordNumber) (t : List ℕ) where
     small = let p = opened s n t h o in omega (arith, p.fits, (sound t h p.table).sized)
 
   module _ (room : ℕ) where
-    calls_count : (h : Numbers) → open_table s n t ≡ gives h → (k : ℕ) {w : State} {c : ℕ} → Lies (length s) w.list → Calls s n t room w c → k + c ≡ count_from s n (record_of t) room k w
+    calls_count : (h : Numbers) → open_table s n t ≡ gives h → (k : ℕ) {w : State} {c : ℕ} → Lies (length s) w.list
+        → Calls s n t room w c → k + c ≡ count_from s n (record_of t) room k w
     calls_count h o k y (end w e) =
         let q = next-is h o w y in
         ap (λ (l : Left). k + l.reads) q ∙ sym (count-end s n (record_of t) room k w (sym (ap (λ (l : Left). l.answer) q) ∙ e))
@@ -83,17 +84,20 @@ module _ (s : List ℕ) (n : RecordNumber) (t : List ℕ) where
     fresh-lies = no-list-lies s
 
     -- behind the opening checks it is the count of the third demand
-    pub calls-counted : (h : Numbers) → open_table s n t ≡ gives h → (c : ℕ) → Calls s n t room (fresh_of s) c → c ≡ count_of s n (record_of t) room
+    pub calls-counted : (h : Numbers) → open_table s n t ≡ gives h → (c : ℕ) → Calls s n t room (fresh_of s) c
+        → c ≡ count_of s n (record_of t) room
     unfolding count_of
     calls-counted h o c l = let e = calls_count h o 0 fresh-lies l in omega (arith, e)
 
     -- refused by them, the first call is the last, and reads nothing
-    none_read : (x : Answer Item) → ((i : Item) → x ≡ gives i → ⊥) → {w : State} {c : ℕ} → next_of s n t w ≡ leaves x w 0 → Calls s n t room w c → c ≡ 0
+    none_read : (x : Answer Item) → ((i : Item) → x ≡ gives i → ⊥) → {w : State} {c : ℕ}
+        → next_of s n t w ≡ leaves x w 0 → Calls s n t room w c → c ≡ 0
     none_read x f q (end w e) = ap (λ (l : Left). l.reads) q
     none_read x f q (refusal w r e) = ap (λ (l : Left). l.reads) q
     none_read x f q (item w i d e rest) = absurd (f i (sym (ap (λ (l : Left). l.answer) q) ∙ e))
 
-    refused-opening : (a : Answer Numbers) (w : State) → open_table s n t ≡ a → next_of s n t w ≡ next_after s n t w (a ⟫ λ _. inside_of s n w.list)
+    refused-opening : (a : Answer Numbers) (w : State) → open_table s n t ≡ a
+        → next_of s n t w ≡ next_after s n t w (a ⟫ λ _. inside_of s n w.list)
     unfolding next_of
     refused-opening a w e = ap (λ (x : Answer Numbers). next_after s n t w (x ⟫ λ _. inside_of s n w.list)) e
 
@@ -112,7 +116,8 @@ module _ (s : List ℕ) (n : RecordNumber) (t : List ℕ) where
     calls-bounded = bounded-by (open_table s n t) refl
 
     -- and there are such calls from every state on, since each item lowers the measure
-    lower-after : (w : State) (x : Answer Unit) (i : Item) → (next_after s n t w x).answer ≡ gives i → measure s (next_after s n t w x).left < measure s w
+    lower-after : (w : State) (x : Answer Unit) (i : Item) → (next_after s n t w x).answer ≡ gives i
+        → measure s (next_after s n t w x).left < measure s w
     unfolding next_after
     lower-after w (gives u) i e = next-sinks s n (record_of t) w i e
     lower-after w ends i e = absurd (ended-given e)
@@ -122,7 +127,8 @@ module _ (s : List ℕ) (n : RecordNumber) (t : List ℕ) where
     unfolding next_of
     lower w i e = lower-after w _ i e
 
-    calls-by : (w : State) → ((v : State) → measure s v < measure s w → (c : ℕ) × Calls s n t room v c) → (a : Answer Item) → (next_of s n t w).answer ≡ a
+    calls-by : (w : State) → ((v : State) → measure s v < measure s w → (c : ℕ) × Calls s n t room v c)
+        → (a : Answer Item) → (next_of s n t w).answer ≡ a
         → (c : ℕ) × Calls s n t room w c
     calls-by w on (gives i) e =
         let r = on (next_of s n t w).left (lower w i e) in

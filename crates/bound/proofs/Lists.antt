@@ -1,8 +1,9 @@
--- Where the raw walk stands tells the open list: while it stands there no list is opened, and the one that is open keeps its end.
+-- Where the raw walk stands tells the open list: while it stands there no list is opened, and the one that is open
+-- keeps its end.
 use Prim.Native.Nat.{ℕ, ◌+◌, ◌<◌}
 use mathlib.Core.Path.{◌≡◌, refl}
 use mathlib.Core.Bool.{Bool, true, false}
-use mathlib.Core.Logic.{◌⊎◌, inl, inr}
+use mathlib.Core.Logic.{inl, inr}
 use mathlib.Core.List.{List}
 use mathlib.Core.Option.{Option}
 use native.Mathlib.Omega.{arith}
@@ -22,7 +23,7 @@ use Rattle.raw.proofs.Given.{of-step}
 use Rattle.list.specs.Entry.{entry_of}
 use Rattle.list.specs.declared.Entry.{Entry}
 use Rattle.turns.specs.State.{part_of}
-use Rattle.turns.specs.Turn.{Small, passes, answers, closed, past, found_turn, sought_turn, looked_turn, given_turn, entry_after, entry_turn, list_turn, raw_after, raw_turn}
+use Rattle.turns.specs.Turn.{closed, past, found_turn, sought_turn, looked_turn, given_turn, entry_after, entry_turn, list_turn, raw_after, raw_turn}
 use Rattle.items.specs.Items.{small_step}
 use Rattle.turns.specs.declared.State.{State}
 use Rattle.bound.specs.Lists.{Held, Holds}

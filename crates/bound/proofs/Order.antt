@@ -1,9 +1,9 @@
--- The attributes that the walk itself reads in the base record: the raw place moves past each that is read, and by nothing else; so each begins where the one before ended.
+-- The attributes that the walk itself reads in the base record: the raw place moves past each that is read, and by
+-- nothing else; so each begins where the one before ended.
 use Prim.Native.Nat.{ℕ, zero, suc, ◌+◌}
 use mathlib.Core.Path.{◌≡◌, refl, sym, ap, subst, ◌∙◌}
 use mathlib.Core.List.{List, [], ◌∷◌, ◌++◌}
 use mathlib.Core.Option.{Option}
-use lib.ListN.{length}
 use lib.Dec.{eqb, ltb}
 use Rattle.fields.specs.Known.{known_type}
 use Rattle.turns.specs.Key.{agrees}
@@ -44,11 +44,13 @@ abbrev Follows : List ℕ → RecordNumber → ℕ → List Attribute → ℕ �
 Follows s n p [] q = p ≡ q
 Follows s n p (h ∷ l) q = ReadAt s n p h × Follows s n (p + h.length) l q
 
-follows-append : (s : List ℕ) (n : RecordNumber) (p q r : ℕ) (l k : List Attribute) → Follows s n p l q → Follows s n q k r → Follows s n p (l ++ k) r
+follows-append : (s : List ℕ) (n : RecordNumber) (p q r : ℕ) (l k : List Attribute) → Follows s n p l q
+    → Follows s n q k r → Follows s n p (l ++ k) r
 follows-append s n p q r [] k a b = subst (λ (x : ℕ). Follows s n x k r) (sym a) b
 follows-append s n p q r (h ∷ l) k a b = (a.0, follows-append s n (p + h.length) q r l k a.1 b)
 
-follows_on : (s : List ℕ) (n : RecordNumber) (p q : ℕ) (l k : List Attribute) → Follows s n p l q → Follow s n q k → Follow s n p (l ++ k)
+follows_on : (s : List ℕ) (n : RecordNumber) (p q : ℕ) (l k : List Attribute) → Follows s n p l q → Follow s n q k
+    → Follow s n p (l ++ k)
 follows_on s n p q [] k a b = subst (λ (x : ℕ). Follow s n x k) (sym a) b
 follows_on s n p q (h ∷ l) k a b = (a.0, follows_on s n (p + h.length) q l k a.1 b)
 
@@ -78,7 +80,8 @@ seen-foreign n (gives h) = refl
 seen-foreign n ends = refl
 seen-foreign n (refuses r) = refl
 
-find-foreign : (s : List ℕ) (n : RecordNumber) (ty instance : ℕ) (miss : Refusal) → Foreign (find_trail s n ty instance miss)
+find-foreign : (s : List ℕ) (n : RecordNumber) (ty instance : ℕ) (miss : Refusal)
+    → Foreign (find_trail s n ty instance miss)
 unfolding find_trail
 find-foreign s n ty instance miss =
     trailed (find.left s n ty instance miss) (find.turn s n ty instance miss) (find.counted (refuses miss) 0) (λ p. seen n (step_at s n p.at))
@@ -111,13 +114,15 @@ module _ (s : List ℕ) (n : RecordNumber) (look : RecordNumber → Option (List
   Keeps w (passes v k) = w.raw ≡ v.raw
   Keeps w (answers a v k) = w.raw ≡ v.raw
 
-  found-keeps : (part : List ℕ) (w : State) (e : Entry) (a : Answer Attribute) (k : ℕ) → Keeps w (found_turn part w e a k)
+  found-keeps : (part : List ℕ) (w : State) (e : Entry) (a : Answer Attribute) (k : ℕ)
+      → Keeps w (found_turn part w e a k)
   unfolding found_turn
   found-keeps part w e ends k = refl
   found-keeps part w e (refuses r) k = refl
   found-keeps part w e (gives x) k = both (Keeps w) x.resident _ _ refl refl
 
-  looked-keeps : (part : List ℕ) (w : State) (e : Entry) (a : Answer (List ℕ)) → Keeps w (looked_turn s n look part w e a)
+  looked-keeps : (part : List ℕ) (w : State) (e : Entry) (a : Answer (List ℕ))
+      → Keeps w (looked_turn s n look part w e a)
   unfolding looked_turn sought_turn
   looked-keeps part w e ends = refl
   looked-keeps part w e (refuses r) = refl
@@ -138,10 +143,12 @@ module _ (s : List ℕ) (n : RecordNumber) (look : RecordNumber → Option (List
   keeps-moves w (passes v k) l h f = subst (λ (y : List Attribute). Follows s n w.raw y v.raw) (sym f) h
   keeps-moves w (answers a v k) l h f = subst (λ (y : List Attribute). Follows s n w.raw y v.raw) (sym f) h
 
-  entry-moves : (part : List ℕ) (w : State) (a : Answer Entry) → Moves w (entry_after s n look part w a) (entry_trail s n look part w a)
+  entry-moves : (part : List ℕ) (w : State) (a : Answer Entry)
+      → Moves w (entry_after s n look part w a) (entry_trail s n look part w a)
   entry-moves part w a = keeps-moves w (entry_after s n look part w a) (entry_trail s n look part w a) (entry-keeps part w a) (entry-foreign part w a)
 
-  list-moves : (w : State) (h : Attribute) → ReadAt s n w.raw h → (a : Answer Span) → Moves w (list_turn w h a) (own h ∷ [])
+  list-moves : (w : State) (h : Attribute) → ReadAt s n w.raw h → (a : Answer Span)
+      → Moves w (list_turn w h a) (own h ∷ [])
   unfolding list_turn own_of
   list-moves w h g ends = (g, refl)
   list-moves w h g (refuses r) = (g, refl)
@@ -163,15 +170,18 @@ module _ (s : List ℕ) (n : RecordNumber) (look : RecordNumber → Option (List
   abbrev Moved : Going → List Read → Left → Type 0
   Moved g l a = Follows s n g.at.raw (own_of l) a.left.raw
 
-  moved_on : (p q r : ℕ) (l k : List Read) → Follows s n p (own_of l) q → Follows s n q (own_of k) r → Follows s n p (own_of (l ++ k)) r
+  moved_on : (p q r : ℕ) (l k : List Read) → Follows s n p (own_of l) q → Follows s n q (own_of k) r
+      → Follows s n p (own_of (l ++ k)) r
   moved_on p q r l k a b = subst (λ (x : List Attribute). Follows s n p x r) (sym (own-append l k)) (follows-append s n p q r (own_of l) (own_of k) a b)
 
-  moved-stop : (g : Going) (a : Left) (x : Small) (l : List Read) → Moves g.at x l → turn_after s n look g.reads x ≡ stop a → Moved g (l ++ []) a
+  moved-stop : (g : Going) (a : Left) (x : Small) (l : List Read) → Moves g.at x l
+      → turn_after s n look g.reads x ≡ stop a → Moved g (l ++ []) a
   unfolding turn_after own_of
   moved-stop g a (passes v k) l h e = absurd (go-stop e)
   moved-stop g a (answers b v k) l h e = subst (Moved g (l ++ [])) (the-stop e) (moved_on g.at.raw v.raw v.raw l [] h refl)
 
-  moved-go : (g t : Going) (k : List Read) (a : Left) (x : Small) (l : List Read) → Moves g.at x l → turn_after s n look g.reads x ≡ go t → Moved t k a → Moved g (l ++ k) a
+  moved-go : (g t : Going) (k : List Read) (a : Left) (x : Small) (l : List Read) → Moves g.at x l
+      → turn_after s n look g.reads x ≡ go t → Moved t k a → Moved g (l ++ k) a
   unfolding turn_after
   moved-go g t k a (passes v c) l h e m =
       moved_on g.at.raw t.at.raw a.left.raw l k (subst (λ (y : Going). Follows s n g.at.raw (own_of l) y.at.raw) (the-go e) h) m
@@ -192,13 +202,15 @@ module _ (s : List ℕ) (n : RecordNumber) (look : RecordNumber → Option (List
     join-foreign k e place ends = none-own
     join-foreign k e place (refuses r) = none-own
 
-    entered-foreign : (k : ℕ) (c : Cursor) (part : List ℕ) (a : Answer Entry) → Foreign (entered_trail s n look room k c part a)
+    entered-foreign : (k : ℕ) (c : Cursor) (part : List ℕ) (a : Answer Entry)
+        → Foreign (entered_trail s n look room k c part a)
     unfolding entered_trail keyed_trail own_of
     entered-foreign k c part (gives e) = join-foreign k e c.list.from (judge_part (key_for c.key e part) e part n c.list.from)
     entered-foreign k c part ends = refl
     entered-foreign k c part (refuses r) = refl
 
-    onward-foreign : (x : Stepped) (l : Cursor → List Read) → ((d : Cursor) → Foreign (l d)) → Foreign (parts_onward s n look room l x)
+    onward-foreign : (x : Stepped) (l : Cursor → List Read) → ((d : Cursor) → Foreign (l d))
+        → Foreign (parts_onward s n look room l x)
     unfolding parts_onward
     onward-foreign (lists p d k) l ih = ih d
     onward-foreign (stops a k) l ih = none-own
@@ -215,7 +227,8 @@ module _ (s : List ℕ) (n : RecordNumber) (look : RecordNumber → Option (List
     parts-foreign l = both Foreign l.is _ _ (run-foreign _ 0 (cursor l no_key)) none-own
 
     -- all the calls
-    calls-after : (p : ℕ) (t : List Read) (v : State) (a : Answer Item) → Follows s n p (own_of t) v.raw → (l : State → List Read) → ((v : State) → Follow s n v.raw (own_of (l v)))
+    calls-after : (p : ℕ) (t : List Read) (v : State) (a : Answer Item) → Follows s n p (own_of t) v.raw
+        → (l : State → List Read) → ((v : State) → Follow s n v.raw (own_of (l v)))
         → Follow s n p (own_of (t ++ trail_after s n look room l v a))
     unfolding trail_after own_of
     calls-after p t v (gives i) h l ih =

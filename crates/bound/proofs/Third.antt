@@ -21,7 +21,8 @@ use Rattle.bound.proofs.Order.{own-follow}
 use Rattle.bound.proofs.Apart.{apart, each_part}
 
 -- where no record that is looked up is longer than the base record
-pub third : (s : List ℕ) (n : RecordNumber) (look : RecordNumber → Option (List ℕ)) (room : ℕ) → Sized s look → Whole s n look room
+pub third : (s : List ℕ) (n : RecordNumber) (look : RecordNumber → Option (List ℕ)) (room : ℕ) → Sized s look
+    → Whole s n look room
 third s n look room z = record {
   bound = bounded s n look room z;
   count = count-is-trail s n look room;
@@ -36,10 +37,12 @@ pub table-sized : (s t : List ℕ) (h : Numbers) → table_of t ≡ gives h → 
 table-sized s t h e l w b g = omega (arith, record-sized (sound t h e) w b g)
 
 -- so behind the opening checks it holds of every base record and table
-pub third_of : (s : List ℕ) (n : RecordNumber) (t : List ℕ) (h : Numbers) (room : ℕ) → open_table s n t ≡ gives h → Whole s n (record_of t) room
+pub third_of : (s : List ℕ) (n : RecordNumber) (t : List ℕ) (h : Numbers) (room : ℕ) → open_table s n t ≡ gives h
+    → Whole s n (record_of t) room
 third_of s n t h room e = let o = opened s n t h e in third s n (record_of t) room (table-sized s t h o.table o.fits)
 
 -- for a record of 1,024 bytes, by computation
-pub third-1024 : (s : List ℕ) (n : RecordNumber) (look : RecordNumber → Option (List ℕ)) (room : ℕ) → Sized s look → length s ≡ 1024
+pub third-1024 : (s : List ℕ) (n : RecordNumber) (look : RecordNumber → Option (List ℕ)) (room : ℕ) → Sized s look
+    → length s ≡ 1024
     → count_of s n look room ≤ 5173
 third-1024 s n look room z e = subst (λ (m : ℕ). count_of s n look room ≤ most m) e (third s n look room z).bound

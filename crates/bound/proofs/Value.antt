@@ -1,4 +1,5 @@
--- What a place of the walk is worth: the reads that can still come, in numbers alone. Each read is paid by what the worth falls.
+-- What a place of the walk is worth: the reads that can still come, in numbers alone. Each read is paid by what the
+-- worth falls.
 use Prim.Native.Nat.{ℕ, ◌+◌, ◌*◌, ◌/◌, ◌≤◌}
 use native.Mathlib.Nat.{mul-le-mul_right}
 use native.Mathlib.Omega.{arith}
@@ -23,7 +24,8 @@ pub E-mono : (k n : ℕ) → k ≤ n → E k ≤ E n
 unfolding E
 E-mono k n h = omega arith
 
--- r attributes can be read yet by the raw walk; x entries by the walk, each with a lookup of A attributes and one entry more that ends its item's parts;
+-- r attributes can be read yet by the raw walk; x entries by the walk, each with a lookup of A attributes and one
+-- entry more that ends its item's parts;
 -- y entries by parts, each with a lookup
 unfoldable pub val : ℕ → ℕ → ℕ → ℕ → ℕ
 val A r x y = r + x * (2 + A) + y * (1 + A)
@@ -45,7 +47,8 @@ module _ (A r x y r' x' y' : ℕ) where
   val-entry n hn hr hx hy = omega (arith, mul-le-mul_right (2 + A) hx, mul-le-mul_right (1 + A) hy)
 
   -- an entry with its lookup and the parts of its item, which read c
-  pub val-item : (n c : ℕ) → n ≤ A → r' ≤ r → x' + 1 ≤ x → c + y' * (1 + A) ≤ 1 + y * (1 + A) → n + 1 + c + val A r' x' y' ≤ val A r x y
+  pub val-item : (n c : ℕ) → n ≤ A → r' ≤ r → x' + 1 ≤ x → c + y' * (1 + A) ≤ 1 + y * (1 + A)
+      → n + 1 + c + val A r' x' y' ≤ val A r x y
   unfolding val
   val-item n c hn hr hx hc = omega (arith, mul-le-mul_right (2 + A) hx)
 
@@ -58,7 +61,8 @@ unfolding val
 val-some A r x y n h k = omega (arith, mul-le-mul_right (2 + A) k)
 
 -- an entry of the parts and its lookup, before others
-pub pay-part : (A n c x y z : ℕ) → n ≤ A → x + 1 ≤ y → c + z * (1 + A) ≤ 1 + x * (1 + A) → n + 1 + c + z * (1 + A) ≤ 1 + y * (1 + A)
+pub pay-part : (A n c x y z : ℕ) → n ≤ A → x + 1 ≤ y → c + z * (1 + A) ≤ 1 + x * (1 + A)
+    → n + 1 + c + z * (1 + A) ≤ 1 + y * (1 + A)
 pay-part A n c x y z hn hx hc = omega (arith, mul-le-mul_right (1 + A) hx)
 
 -- and the last of them

@@ -1,5 +1,6 @@
--- Whoever calls `next` from a fresh walk to the end or the first refusal, calls `parts` once for each item, and adds up the reads reported, gets the
--- count of the whole listing; so for any bytes at all, record and table, at most a + 3e + 2ea are reported.
+-- Whoever calls `next` from a fresh walk to the end or the first refusal, calls `parts` once for each item, and adds up
+-- the reads reported, gets the count of the whole listing; and for any bytes at all, record and table, at most
+-- a + 3e + 2ea are reported.
 use Rattle.std.specs.Prelude.{◌≡◌, ℕ, ◌+◌, ◌≤◌, List, length}
 use Rattle.fields.specs.Answer.{gives, ends, refuses}
 use Rattle.fields.specs.declared.RecordNumber.{RecordNumber}
@@ -25,12 +26,14 @@ module _ (s : List ℕ) (n : RecordNumber) (t : List ℕ) (room : ℕ) where
 
 -- behind the opening checks they report the count of the whole listing
 abbrev pub CallsCounted : Type 0
-CallsCounted = (s : List ℕ) (n : RecordNumber) (t : List ℕ) (room : ℕ) (h : Numbers) → open_table s n t ≡ gives h
-    → (c : ℕ) → Calls s n t room (fresh_of s) c → c ≡ count_of s n (record_of t) room
+CallsCounted =
+    (s : List ℕ) (n : RecordNumber) (t : List ℕ) (room : ℕ) (h : Numbers) → open_table s n t ≡ gives h → (c : ℕ)
+    → Calls s n t room (fresh_of s) c → c ≡ count_of s n (record_of t) room
 
 -- and for any bytes a + 3e + 2ea at most
 abbrev pub CallsBounded : Type 0
-CallsBounded = (s : List ℕ) (n : RecordNumber) (t : List ℕ) (room c : ℕ) → Calls s n t room (fresh_of s) c → c ≤ most (length s)
+CallsBounded =
+    (s : List ℕ) (n : RecordNumber) (t : List ℕ) (room c : ℕ) → Calls s n t room (fresh_of s) c → c ≤ most (length s)
 
 -- from every state on, the calls come to their end
 abbrev pub CallsEnd : Type 0

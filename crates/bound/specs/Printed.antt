@@ -1,4 +1,5 @@
--- The listing of every table says that the table is refused, or tells in its last line a count of what was read: at most a + 3e + 2ea of its base record.
+-- The listing of every table says that the table is refused, or tells in its last line a count of what was read: at
+-- most a + 3e + 2ea of its base record.
 use Rattle.std.specs.Prelude.{◌≡◌, ℕ, ◌≤◌, ◌⊎◌, List, [], ◌∷◌, length}
 use Rattle.std.proofs.Math.Option.{Option, some}
 use Rattle.fields.specs.declared.RecordNumber.{RecordNumber}
@@ -18,7 +19,9 @@ pub data Last (c : ℕ) : List Text → Type 0 where
 
 -- the lines of a fresh walk end with the count of the whole listing
 abbrev pub WalksTell : Type 0
-WalksTell = (s : List ℕ) (n : RecordNumber) (look : RecordNumber → Option (List ℕ)) → Last (count_of s n look room) (walk_lines s n look 0 (fresh_of s))
+WalksTell =
+    (s : List ℕ) (n : RecordNumber) (look : RecordNumber → Option (List ℕ))
+    → Last (count_of s n look room) (walk_lines s n look 0 (fresh_of s))
 
 -- the lines l tell a count of what was read, where s is the base record
 pub record Tells (s : List ℕ) (l : List Text) : Type 0 where

@@ -1,7 +1,8 @@
--- List a record of m bytes with the parts of each item, asked for once, over the same record and table throughout, from `fresh` to the end or the first
--- refusal of the walk. With a = m / 16 and e = m / 26, rounded down: at most a + 3e + 2ea attributes and entries are read (5,173 at 1,024 bytes);
--- the count reported is the definition's own; the attributes that the walk itself reads in the base record, lookups aside, follow one another
--- without overlap inside it; and no list entry, told by its list and its place there, gives a part to two items.
+-- List a record of m bytes with the parts of each item, asked for once, over the same record and table throughout, from
+-- `fresh` to the end or the first refusal of the walk. With a = m / 16 and e = m / 26, rounded down:
+-- at most a + 3e + 2ea attributes and entries are read (5,173 at 1,024 bytes); the count reported is the definition's
+-- own; the attributes that the walk itself reads in the base record, lookups aside, follow one another without overlap
+-- inside it; and no list entry, told by its list and its place there, gives a part to two items.
 use Rattle.std.specs.Prelude.{◌≡◌, ℕ, ◌+◌, ◌*◌, ◌/◌, ◌<◌, ◌≤◌, List, [], ◌∷◌, length, slice_index_or, ⊤}
 use Rattle.std.specs.List.{AllByRecursion, Contains}
 use Rattle.std.proofs.Math.Option.{Option, some}
@@ -57,7 +58,8 @@ module _ (s : List ℕ) (n : RecordNumber) (look : RecordNumber → Option (List
     pub looked : lookup_in s n look file place ≡ gives bytes
     pub read : ReadAt bytes file h.offset h
 
-  -- where what is read stands: an attribute in the base record or in one that was looked up, an entry at the front of what is left of its list
+  -- where what is read stands: an attribute in the base record or in one that was looked up, an entry at the front of
+  -- what is left of its list
   abbrev pub Stands : Read → Type 0
   Stands (own h) = ReadAt s n h.offset h
   Stands (entry l e) = entry_of (listPart s l) n l.from ≡ gives e
@@ -81,14 +83,16 @@ module _ (s : List ℕ) (n : RecordNumber) (look : RecordNumber → Option (List
     pub record Whole : Type 0 where
       -- so much is read at most, refusing calls included
       pub bound : count_of s n look room ≤ most (length s)
-      -- the count is the length of a trail with one element for each attribute and each entry read: in the walk, in every lookup, and in every parts call
+      -- the count is the length of a trail with one element for each attribute and each entry read: in the walk, in
+      -- every lookup, and in every parts call
       pub count : count_of s n look room ≡ length (trail_of s n look room)
       -- and each of them stands where it is said to
       pub stand : AllByRecursion Stands (trail_of s n look room)
       -- the attributes that the walk itself reads in the base record, the first at the first attribute offset
       pub follow : Follow s n (first_attribute s) (own_of (trail_of s n look room))
       -- items with a part by one entry are one item
-      pub apart : (i j : ℕ) (x : Spot) → PartBy (items_of s n look room) i x → PartBy (items_of s n look room) j x → i ≡ j
+      pub apart : (i j : ℕ) (x : Spot) → PartBy (items_of s n look room) i x → PartBy (items_of s n look room) j x
+          → i ≡ j
       -- and the entries that `gave_in` names lead to the parts, one to each
       pub each : (l : Rest) → Each (gave_in s n look room l) (parts_in s n look room l).parts
 
@@ -100,16 +104,24 @@ module _ (s : List ℕ) (n : RecordNumber) (look : RecordNumber → Option (List
 
 -- for every record, number and room, and every lookup of records no longer than the record
 abbrev pub EveryLookup : Type 0
-EveryLookup = (s : List ℕ) (n : RecordNumber) (look : RecordNumber → Option (List ℕ)) (room : ℕ) → Sized s look → Whole s n look room
+EveryLookup =
+    (s : List ℕ) (n : RecordNumber) (look : RecordNumber → Option (List ℕ)) (room : ℕ) → Sized s look
+    → Whole s n look room
 
 -- so for every record and table that pass the opening checks
 abbrev pub EveryTable : Type 0
-EveryTable = (s : List ℕ) (n : RecordNumber) (t : List ℕ) (h : Numbers) (room : ℕ) → open_table s n t ≡ gives h → Whole s n (record_of t) room
+EveryTable =
+    (s : List ℕ) (n : RecordNumber) (t : List ℕ) (h : Numbers) (room : ℕ) → open_table s n t ≡ gives h
+    → Whole s n (record_of t) room
 
 -- a record of 1,024 bytes
 abbrev pub Every1024 : Type 0
-Every1024 = (s : List ℕ) (n : RecordNumber) (look : RecordNumber → Option (List ℕ)) (room : ℕ) → Sized s look → length s ≡ 1024 → count_of s n look room ≤ 5173
+Every1024 =
+    (s : List ℕ) (n : RecordNumber) (look : RecordNumber → Option (List ℕ)) (room : ℕ) → Sized s look → length s ≡ 1024
+    → count_of s n look room ≤ 5173
 
 -- the walk comes to its end or its first refusal
 abbrev pub EveryEnd : Type 0
-EveryEnd = (s : List ℕ) (n : RecordNumber) (look : RecordNumber → Option (List ℕ)) (room f : ℕ) → measure s (fresh_of s) < f → Enough s n look room f
+EveryEnd =
+    (s : List ℕ) (n : RecordNumber) (look : RecordNumber → Option (List ℕ)) (room f : ℕ) → measure s (fresh_of s) < f
+    → Enough s n look room f

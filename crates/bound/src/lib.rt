@@ -1,4 +1,5 @@
-// What is promised of a whole listing: laws of the definitions that the crates below are proved equal to, each the contract of a function that does nothing.
+// What is promised of a whole listing: laws of the definitions that the crates below are proved equal to, each the
+// contract of a function that does nothing.
 #![tactic(auto)]
 
 ghost use Rattle.bound.specs.Whole.{EveryLookup, EveryTable, Every1024, EveryEnd};
@@ -6,7 +7,8 @@ ghost use Rattle.bound.specs.Calls.{CallsCounted, CallsBounded, CallsEnd};
 ghost use Rattle.bound.specs.Printed.{WalksTell, ListingsTell};
 ghost use Rattle.bound.specs.Lists.{EveryStep};
 
-// A whole listing reads at most a + 3e + 2ea attributes and entries, tells each of them, and gives no part to two items.
+// A whole listing reads at most a + 3e + 2ea attributes and entries, tells each of them, and gives no part to two
+// items.
 pub fn listings_are_bounded()
     ensures lookup { EveryLookup }
     ensures table { EveryTable }
