@@ -11,7 +11,7 @@ use Rattle.raw.specs.declared.Found.{Found}
 use Rattle.raw.proofs.Finds.{located}
 use Rattle.raw.proofs.Given.{inside}
 
-pub found_inside : (s : List ℕ) (n : RecordNumber) (ty instance : ℕ) (miss : Refusal) (f : Found) (h : Attribute) → told_found f ≡ find_of s n ty instance miss
-    → f.answer ≡ checked.Given h → length s ≤ 4096 → Inside s h
+pub found_inside : (s : List ℕ) (n : RecordNumber) (ty instance : ℕ) (miss : Refusal) (f : Found) (h : Attribute)
+    → told_found f ≡ find_of s n ty instance miss → f.answer ≡ checked.Given h → length s ≤ 4096 → Inside s h
 found_inside s n ty instance miss f h p q m =
     inside (located s n ty instance miss h (sym (ap (λ (z : Counted Attribute). z.answer) p) ∙ ap told_checked q)).given m
