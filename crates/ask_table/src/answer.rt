@@ -3,61 +3,63 @@ use fields::RecordNumber;
 use fields::inner::u32_at;
 use list::{Entry, EntryStep};
 use lookup::Looked;
+use std::io;
+use std::io::Write;
 use table::{TableHeader, RowFound, Tested};
 use words::{say, tell, tell_bytes, tell_one, tell_refused};
 
-fn put_entry(e: Entry, last: u8) {
-    let lowest = e.lowest;
-    let file = e.file;
-    tell(
-        b"entry",
-        [
-            e.ty as u64,
-            e.length as u64,
-            e.units as u64,
-            lowest.0,
-            file.0,
-            e.instance as u64,
-            0,
-            0,
-        ],
-        6,
-        last,
-    )
+fn put_entry(out: &mut impl Write, e: Entry, last: u8) -> io::Result<()> {
+    let numbers = [
+        e.ty as u64,
+        e.length as u64,
+        e.units as u64,
+        e.lowest.0,
+        e.file.0,
+        e.instance as u64,
+    ];
+    tell(out, "entry", &numbers, last)
 }
 
-fn put_step(a: EntryStep, last: u8) {
+fn put_step(out: &mut impl Write, a: EntryStep, last: u8) -> io::Result<()> {
     match a {
-        EntryStep::Given(e) => put_entry(e, last),
-        EntryStep::End => say(b"end", last),
-        EntryStep::Refused(r) => tell_refused(r, last),
+        EntryStep::Given(e) => put_entry(out, e, last),
+        EntryStep::End => say(out, "end", last),
+        EntryStep::Refused(r) => tell_refused(out, r, last),
     }
 }
 
-pub fn tell_entry(rest: &[u8], number: u64, place: usize) {
-    put_step(list::header(rest, RecordNumber(number), place), b'\n')
+pub fn tell_entry(
+    out: &mut impl Write,
+    rest: &[u8],
+    number: RecordNumber,
+    place: usize,
+) -> io::Result<()> {
+    put_step(out, list::header(rest, number, place), b'\n')
 }
 
 // All 510 bytes of the name are told whatever the answer, since they must be zeros where there is none.
-pub fn tell_listed(rest: &[u8], number: u64, place: usize) {
-    let l = list::step(rest, RecordNumber(number), place);
-    let a = l.answer;
-    let name = l.name;
-    put_step(a, b' ');
-    tell_bytes(b"name", &name)
+pub fn tell_listed(
+    out: &mut impl Write,
+    rest: &[u8],
+    number: RecordNumber,
+    place: usize,
+) -> io::Result<()> {
+    let l = list::step(rest, number, place);
+    put_step(out, l.answer, b' ')?;
+    tell_bytes(out, "name", &l.name)
 }
 
-fn put_row(r: RowFound) {
+fn put_row(out: &mut impl Write, r: RowFound) -> io::Result<()> {
     match r {
-        RowFound::At(i) => tell_one(b"row", i as u64, b'\n'),
-        RowFound::Missing => say(b"none", b'\n'),
+        RowFound::At(i) => tell_one(out, "row", i as u64, b'\n'),
+        RowFound::Missing => say(out, "none", b'\n'),
     }
 }
 
 // The base row of a table's numbers whatever they are, since the call does not ask that they passed check 21. Fewer than 20 bytes have no answer.
-pub fn tell_base_row(t: &[u8]) {
+pub fn tell_base_row(out: &mut impl Write, t: &[u8]) -> io::Result<()> {
     if t.len() < 20 {
-        return;
+        return Ok(());
     }
     let h = TableHeader {
         count: u32_at(t, 0),
@@ -66,51 +68,65 @@ pub fn tell_base_row(t: &[u8]) {
         records: u32_at(t, 12),
         base: u32_at(t, 16),
     };
-    put_row(table::base_row(h))
+    put_row(out, table::base_row(h))
 }
 
-fn put_numbers(h: TableHeader) {
-    tell(
-        b"table",
-        [
-            h.count as u64,
-            h.size as u64,
-            h.directory as u64,
-            h.records as u64,
-            h.base as u64,
-            0,
-            0,
-            0,
-        ],
-        5,
-        b'\n',
-    )
+fn put_numbers(out: &mut impl Write, h: TableHeader) -> io::Result<()> {
+    let numbers = [
+        h.count as u64,
+        h.size as u64,
+        h.directory as u64,
+        h.records as u64,
+        h.base as u64,
+    ];
+    tell(out, "table", &numbers, b'\n')
 }
 
-fn put_tested(a: Tested) {
+fn put_tested(out: &mut impl Write, a: Tested) -> io::Result<()> {
     match a {
-        Tested::Sound(h) => put_numbers(h),
-        Tested::Refused(r) => tell_refused(r, b'\n'),
+        Tested::Sound(h) => put_numbers(out, h),
+        Tested::Refused(r) => tell_refused(out, r, b'\n'),
     }
 }
 
-pub fn tell_check(t: &[u8]) {
-    put_tested(table::check(t))
+pub fn tell_check(out: &mut impl Write, t: &[u8]) -> io::Result<()> {
+    put_tested(out, table::check(t))
 }
 
-pub fn tell_opening(s: &[u8], number: u64, t: &[u8]) {
-    put_tested(table::opening(s, RecordNumber(number), t))
+pub fn tell_opening(
+    out: &mut impl Write,
+    s: &[u8],
+    number: RecordNumber,
+    t: &[u8],
+) -> io::Result<()> {
+    put_tested(out, table::opening(s, number, t))
 }
 
-pub fn tell_lookup<'a>(s: &'a [u8], number: u64, t: &'a [u8], wanted: u64, place: usize) {
-    let l = lookup::lookup(s, RecordNumber(number), t, RecordNumber(wanted), place);
-    match l {
-        Looked::Found => say(b"found", b'\n'),
-        Looked::Refused(r) => tell_refused(r, b'\n'),
+pub fn tell_lookup<'a>(
+    out: &mut impl Write,
+    s: &'a [u8],
+    number: RecordNumber,
+    t: &'a [u8],
+    wanted: RecordNumber,
+    place: usize,
+) -> io::Result<()> {
+    match lookup::lookup(s, number, t, wanted, place) {
+        Looked::Found => say(out, "found", b'\n'),
+        Looked::Refused(r) => tell_refused(out, r, b'\n'),
     }
 }
 
-pub fn tell_view<'a>(s: &'a [u8], number: u64, t: &'a [u8], wanted: u64, place: usize) {
-    let v = lookup::lookup_view(s, RecordNumber(number), t, RecordNumber(wanted), place);
-    tell_bytes(b"view", v)
+pub fn tell_view<'a>(
+    out: &mut impl Write,
+    s: &'a [u8],
+    number: RecordNumber,
+    t: &'a [u8],
+    wanted: RecordNumber,
+    place: usize,
+) -> io::Result<()> {
+    tell_bytes(
+        out,
+        "view",
+        lookup::lookup_view(s, number, t, wanted, place),
+    )
 }

@@ -4,41 +4,30 @@
 
 mod answer;
 
-use words::{Question, part};
+use fields::RecordNumber;
+use std::io;
+use std::io::Write;
+use words::Question;
 
 // One call for each kind of question. A kind that there is not has no answer.
-fn tell_answer<'a>(s: &'a [u8], t: &'a [u8], q: Question) {
-    let kind = q.kind;
-    let number = q.number;
-    let place = q.place;
-    let wanted = q.wanted;
-    match kind {
-        0 => answer::tell_entry(s, number, place),
-        1 => answer::tell_listed(s, number, place),
-        2 => answer::tell_base_row(t),
-        3 => answer::tell_check(t),
-        4 => answer::tell_opening(s, number, t),
-        5 => answer::tell_lookup(s, number, t, wanted, place),
-        6 => answer::tell_view(s, number, t, wanted, place),
-        _ => {}
+fn tell_answer(out: &mut impl Write, q: &Question<'_>) -> io::Result<()> {
+    let s = q.record;
+    let t = q.table;
+    let number = RecordNumber(q.number);
+    let wanted = RecordNumber(q.wanted);
+    match q.kind {
+        0 => answer::tell_entry(out, s, number, q.place),
+        1 => answer::tell_listed(out, s, number, q.place),
+        2 => answer::tell_base_row(out, t),
+        3 => answer::tell_check(out, t),
+        4 => answer::tell_opening(out, s, number, t),
+        5 => answer::tell_lookup(out, s, number, t, wanted, q.place),
+        6 => answer::tell_view(out, s, number, t, wanted, q.place),
+        _ => Ok(()),
     }
 }
 
-// Answers one question, and says whether to go on.
-fn turn(space: &mut [u8]) -> bool {
-    let q = words::read_question(space);
-    if q.whole {
-        tell_answer(part(space, 0, q.record), part(space, q.record, q.bytes), q);
-    }
-    q.whole
-}
-
-// A proved loop has to end, and nothing says that the input does. So the loop counts its turns down, from a number that no run uses up.
-fn main() {
-    let mut room = words::room();
-    let space: &mut [u8] = &mut room;
-    let mut turns = u64::MAX;
-    while turns > 0 && turn(space) {
-        turns -= 1;
-    }
+// Whether all could be written is not asked: what is missing is missed by the test.
+fn main(rt: HostRuntime) {
+    let _ = words::answer_all(&rt, |q, out| tell_answer(out, q));
 }

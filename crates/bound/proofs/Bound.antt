@@ -1,4 +1,5 @@
--- The walk call by call: each call, with its item's parts, is paid by what the worth falls, so a whole listing reads no more than a fresh walk is worth.
+-- The walk call by call: each call, with its item's parts, is paid by what the worth falls, so a whole listing reads
+-- no more than a fresh walk is worth.
 use Prim.Native.Nat.{ℕ, zero, suc, ◌+◌, ◌≤◌}
 use mathlib.Core.Path.{◌≡◌, refl, subst}
 use mathlib.Core.List.{List, [], ◌∷◌, ◌++◌}
@@ -6,7 +7,6 @@ use Rattle.std.specs.Prelude.{Option}
 use native.Mathlib.Nat.{le_refl}
 use native.Mathlib.Omega.{arith}
 use lib.ListN.{length}
-use Rattle.fields.specs.Pick.{pick}
 use Rattle.fields.specs.Answer.{Answer, gives, ends, refuses}
 use Rattle.fields.specs.Walk.{stop, go}
 use Rattle.fields.specs.declared.RecordNumber.{RecordNumber}
@@ -19,8 +19,8 @@ use Rattle.turns.specs.declared.Item.{Item}
 use Rattle.items.proofs.Kept.{falls}
 use Rattle.parts.specs.Parts.{parts_in}
 use Rattle.bound.specs.Run.{Spot, spot, count_after, count_next, count_run, count_from, count_of, spots_of, items_after, items_next, items_run, items_of}
-use Rattle.bound.proofs.Value.{most, val-fresh}
-use Rattle.bound.proofs.Facts.{Sized}
+use Rattle.bound.proofs.Value.{val-fresh}
+use Rattle.bound.specs.Whole.{most, Sized}
 use Rattle.bound.proofs.Rising.{here, Rising, rising-lo, rising-append}
 use Rattle.bound.proofs.Steps.{left, worth, Stands, Goes, unlisted, Good, step-good}
 
@@ -52,12 +52,14 @@ module _ (s : List ℕ) (n : RecordNumber) (look : RecordNumber → Option (List
         rises = rising-lo (spot w.raw g) (spot h.at.raw p.end) (spot v.raw q.end) gave p.rises q.rises;
       }
 
-      come-on : (t : Going) (x : Small) → Good s n look room h.at p.end x → turn_after s n look h.reads x ≡ go t → Come t
+      come-on : (t : Going) (x : Small) → Good s n look room h.at p.end x → turn_after s n look h.reads x ≡ go t
+          → Come t
       unfolding turn_after
       come-on t (passes v c) q e = subst Come (the-go e) (then v c [] q)
       come-on t (answers a v c) q e = absurd (stop-go e)
 
-      answered : (x : Small) → Good s n look room h.at p.end x → (l : Left) → turn_after s n look h.reads x ≡ stop l → Answers l
+      answered : (x : Small) → Good s n look room h.at p.end x → (l : Left) → turn_after s n look h.reads x ≡ stop l
+          → Answers l
       unfolding turn_after
       answered (passes v c) q l e = absurd (go-stop e)
       answered (answers (gives i) v c) q l e =
@@ -85,7 +87,8 @@ module _ (s : List ℕ) (n : RecordNumber) (look : RecordNumber → Option (List
   unfolding flat
   listed-none w g k c h = record { bound = h; end = spot w.raw g; rises = here w.raw g g (le_refl g) }
 
-  listed-after : (w : State) (g : ℕ) (st : Stands s n w g) (k r : ℕ) (v : State) (a : Answer Item) → Answered w g st a v r → (on : ℕ → State → ℕ) (items : State → List (List Spot))
+  listed-after : (w : State) (g : ℕ) (st : Stands s n w g) (k r : ℕ) (v : State) (a : Answer Item)
+      → Answered w g st a v r → (on : ℕ → State → ℕ) (items : State → List (List Spot))
       → ((v : State) (g k : ℕ) → Stands s n v g → Listed v g k (on k v) (items v))
       → Listed w g k (count_after s n look room on (k + r) v a) (items_after s n look room items v a)
   unfolding count_after items_after flat
@@ -100,7 +103,8 @@ module _ (s : List ℕ) (n : RecordNumber) (look : RecordNumber → Option (List
   listed-after w g st k r v ends h on items ih = listed-none w g k (k + r) (omega arith)
   listed-after w g st k r v (refuses x) h on items ih = listed-none w g k (k + r) (omega arith)
 
-  pub listed : (f : ℕ) (w : State) (g k : ℕ) → Stands s n w g → Listed w g k (count_run s n look room f k w) (items_run s n look room f w)
+  pub listed : (f : ℕ) (w : State) (g k : ℕ) → Stands s n w g
+      → Listed w g k (count_run s n look room f k w) (items_run s n look room f w)
   unfolding count_run items_run count_next items_next
   listed zero w g k st = listed-none w g k k (omega arith)
   listed (suc f) w g k st =

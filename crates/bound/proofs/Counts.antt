@@ -1,4 +1,5 @@
--- The count of a whole listing is the length of its trail: nothing is counted that is not read, and nothing that is read is left out.
+-- The count of a whole listing is the length of its trail: nothing is counted that is not read, and nothing that is
+-- read is left out.
 use Prim.Native.Nat.{ℕ, zero, suc, ◌+◌}
 use mathlib.Core.Path.{◌≡◌, refl, sym, ap, subst}
 use mathlib.Core.Logic.{⊎_elim}
@@ -50,7 +51,8 @@ module _ (s : List ℕ) (n : RecordNumber) (ty instance : ℕ) (miss : Refusal) 
   abbrev Stopped : find.Place → List Read → Counted Attribute → Type 0
   Stopped p l a = a.reads ≡ p.reads + length (l ++ [])
 
-  sought-stop : (p : find.Place) (a : Counted Attribute) (x : Answer Attribute) → find.judged s n ty instance miss p x ≡ stop a → Stopped p (seen n x) a
+  sought-stop : (p : find.Place) (a : Counted Attribute) (x : Answer Attribute)
+      → find.judged s n ty instance miss p x ≡ stop a → Stopped p (seen n x) a
   unfolding find.judged seen
   sought-stop p a ends e = subst (Stopped p []) (the-stop e) (omega arith)
   sought-stop p a (refuses r) e = subst (Stopped p []) (the-stop e) (omega arith)
@@ -59,7 +61,8 @@ module _ (s : List ℕ) (n : RecordNumber) (ty instance : ℕ) (miss : Refusal) 
       (λ f. ⊎_elim (λ g. subst (Stopped p (seen n (gives h))) (the-stop g) (omega arith)) (λ g. absurd (go-stop g)) (either (find.is_it h ty instance) _ _ _ f))
       (λ f. subst (Stopped p (seen n (gives h))) (the-stop f) (omega arith)) (either (known_type h.ty) _ _ _ e)
 
-  sought-go : (p q : find.Place) (l : List Read) (a : Counted Attribute) (x : Answer Attribute) → find.judged s n ty instance miss p x ≡ go q → Sought q l a → Sought p (seen n x ++ l) a
+  sought-go : (p q : find.Place) (l : List Read) (a : Counted Attribute) (x : Answer Attribute)
+      → find.judged s n ty instance miss p x ≡ go q → Sought q l a → Sought p (seen n x ++ l) a
   unfolding find.judged seen
   sought-go p q l a ends e h = absurd (stop-go e)
   sought-go p q l a (refuses r) e h = absurd (stop-go e)
@@ -83,13 +86,15 @@ module _ (s : List ℕ) (n : RecordNumber) (look : RecordNumber → Option (List
   Costs (passes v k) l = k ≡ length l
   Costs (answers a v k) l = k ≡ length l
 
-  found-costs : (part : List ℕ) (w : State) (e : Entry) (a : Answer Attribute) (k : ℕ) (l : List Read) → k ≡ length l → Costs (found_turn part w e a k) l
+  found-costs : (part : List ℕ) (w : State) (e : Entry) (a : Answer Attribute) (k : ℕ) (l : List Read) → k ≡ length l
+      → Costs (found_turn part w e a k) l
   unfolding found_turn
   found-costs part w e ends k l h = h
   found-costs part w e (refuses r) k l h = h
   found-costs part w e (gives x) k l h = both (λ y. Costs y l) x.resident _ _ h h
 
-  looked-costs : (part : List ℕ) (w : State) (e : Entry) (x : Read) (a : Answer (List ℕ)) → Costs (looked_turn s n look part w e a) (x ∷ looked_trail s n look e w.list.from a)
+  looked-costs : (part : List ℕ) (w : State) (e : Entry) (x : Read) (a : Answer (List ℕ))
+      → Costs (looked_turn s n look part w e a) (x ∷ looked_trail s n look e w.list.from a)
   unfolding looked_turn sought_turn looked_trail
   looked-costs part w e x ends = refl
   looked-costs part w e x (refuses r) = refl
@@ -98,7 +103,8 @@ module _ (s : List ℕ) (n : RecordNumber) (look : RecordNumber → Option (List
   abbrev Behind : Read → Small → List Read → Type 0
   Behind x y l = Costs y (x ∷ l)
 
-  entry-costs : (part : List ℕ) (w : State) (a : Answer Entry) → Costs (entry_after s n look part w a) (entry_trail s n look part w a)
+  entry-costs : (part : List ℕ) (w : State) (a : Answer Entry)
+      → Costs (entry_after s n look part w a) (entry_trail s n look part w a)
   unfolding entry_after given_turn entry_trail search_trail lookup_trail
   entry-costs part w ends = refl
   entry-costs part w (refuses r) = refl
@@ -126,12 +132,14 @@ module _ (s : List ℕ) (n : RecordNumber) (look : RecordNumber → Option (List
   abbrev Called : Going → List Read → Left → Type 0
   Called g l a = a.reads ≡ g.reads + length l
 
-  called-stop : (g : Going) (l : Left) (x : Small) (r : List Read) → Costs x r → turn_after s n look g.reads x ≡ stop l → Called g (r ++ []) l
+  called-stop : (g : Going) (l : Left) (x : Small) (r : List Read) → Costs x r
+      → turn_after s n look g.reads x ≡ stop l → Called g (r ++ []) l
   unfolding turn_after
   called-stop g l (passes v k) r h e = absurd (go-stop e)
   called-stop g l (answers a v k) r h e = subst (Called g (r ++ [])) (the-stop e) (omega (arith, length-append r []))
 
-  called-go : (g t : Going) (l : List Read) (a : Left) (x : Small) (r : List Read) → Costs x r → turn_after s n look g.reads x ≡ go t → Called t l a → Called g (r ++ l) a
+  called-go : (g t : Going) (l : List Read) (a : Left) (x : Small) (r : List Read) → Costs x r
+      → turn_after s n look g.reads x ≡ go t → Called t l a → Called g (r ++ l) a
   unfolding turn_after
   called-go g t l a (passes v k) r h e c =
       let i : t.reads ≡ g.reads + k = sym (ap (λ (y : Going). y.reads) (the-go e)) in
@@ -152,26 +160,30 @@ module _ (s : List ℕ) (n : RecordNumber) (look : RecordNumber → Option (List
     Spends (lists p c k) l = k ≡ length l
     Spends (stops a k) l = k ≡ length l
 
-    after-spends : (next : Cursor) (a : Answer Part) (k : ℕ) (x : Read) (l : List Read) → k ≡ length l → Spends (step_after next a k) (x ∷ l)
+    after-spends : (next : Cursor) (a : Answer Part) (k : ℕ) (x : Read) (l : List Read) → k ≡ length l
+        → Spends (step_after next a k) (x ∷ l)
     unfolding step_after
     after-spends next (gives p) k x l h = omega arith
     after-spends next ends k x l h = omega arith
     after-spends next (refuses r) k x l h = omega arith
 
-    part_count : (e : Entry) (place : ℕ) (a : Answer (List ℕ)) → (part_looked s n look e place a).reads ≡ length (looked_trail s n look e place a)
+    part_count : (e : Entry) (place : ℕ) (a : Answer (List ℕ))
+        → (part_looked s n look e place a).reads ≡ length (looked_trail s n look e place a)
     unfolding part_looked part_found looked_trail
     part_count e place ends = refl
     part_count e place (refuses r) = refl
     part_count e place (gives t) = find-count t e.file e.ty e.instance (refusal 18 n place)
 
-    joined-spends : (k : ℕ) (next : Cursor) (e : Entry) (place : ℕ) (x : Read) (j : Answer Unit) → Spends (step_joined s n look room k next e place j) (x ∷ join_trail s n look room k e place j)
+    joined-spends : (k : ℕ) (next : Cursor) (e : Entry) (place : ℕ) (x : Read) (j : Answer Unit)
+        → Spends (step_joined s n look room k next e place j) (x ∷ join_trail s n look room k e place j)
     unfolding step_joined step_part part_of join_trail lookup_trail
     joined-spends k next e place x (gives u) =
         both_by (λ y l. Spends y (x ∷ l)) (ltb k room) _ _ _ _ (after-spends next (part_looked s n look e place (lookup_in s n look e.file place)).answer _ x _ (part_count e place _)) refl
     joined-spends k next e place x ends = refl
     joined-spends k next e place x (refuses r) = refl
 
-    entered-spends : (k : ℕ) (c : Cursor) (part : List ℕ) (a : Answer Entry) → Spends (step_entered s n look room k c part a) (entered_trail s n look room k c part a)
+    entered-spends : (k : ℕ) (c : Cursor) (part : List ℕ) (a : Answer Entry)
+        → Spends (step_entered s n look room k c part a) (entered_trail s n look room k c part a)
     unfolding step_entered step_keyed entered_trail keyed_trail
     entered-spends k c part (gives e) = joined-spends k _ e _ _ (judge_part (key_for c.key e part) e part n c.list.from)
     entered-spends k c part ends = refl
@@ -181,13 +193,15 @@ module _ (s : List ℕ) (n : RecordNumber) (look : RecordNumber → Option (List
     unfolding step_in part_trail
     step-spends k c = entered-spends k c _ _
 
-    after-count : (x : Stepped) (r : List Read) → Spends x r → (on : Cursor → Listing) (l : Cursor → List Read) → ((d : Cursor) → (on d).reads ≡ length (l d))
+    after-count : (x : Stepped) (r : List Read) → Spends x r → (on : Cursor → Listing) (l : Cursor → List Read)
+        → ((d : Cursor) → (on d).reads ≡ length (l d))
         → (parts_after on x).reads ≡ length (r ++ parts_onward s n look room l x)
     unfolding parts_after parts_onward
     after-count (lists p d k) r h on l ih = omega (arith, ih d, length-append r (l d))
     after-count (stops a k) r h on l ih = omega (arith, length-append r [])
 
-    run-count : (f k : ℕ) (c : Cursor) → (parts_run s n look room f k c).reads ≡ length (parts_trail_run s n look room f k c)
+    run-count : (f k : ℕ) (c : Cursor)
+        → (parts_run s n look room f k c).reads ≡ length (parts_trail_run s n look room f k c)
     unfolding parts_run parts_trail_run
     run-count zero k c = refl
     run-count (suc f) k c = after-count (step_in s n look room k c) _ (step-spends k c) (parts_run s n look room f (k + 1)) (parts_trail_run s n look room f (k + 1)) (run-count f (k + 1))
@@ -198,7 +212,8 @@ module _ (s : List ℕ) (n : RecordNumber) (look : RecordNumber → Option (List
     parts-count l = both_by (λ (x : Listing) (y : List Read). x.reads ≡ length y) l.is _ _ _ _ (run-count _ 0 (cursor l no_key)) refl
 
     -- all the calls
-    calls-after : (k r : ℕ) (t : List Read) (v : State) (a : Answer Item) → r ≡ length t → (on : ℕ → State → ℕ) (l : State → List Read) → ((k : ℕ) (v : State) → on k v ≡ k + length (l v))
+    calls-after : (k r : ℕ) (t : List Read) (v : State) (a : Answer Item) → r ≡ length t
+        → (on : ℕ → State → ℕ) (l : State → List Read) → ((k : ℕ) (v : State) → on k v ≡ k + length (l v))
         → count_after s n look room on (k + r) v a ≡ k + length (t ++ trail_after s n look room l v a)
     unfolding count_after trail_after
     calls-after k r t v (gives i) h on l ih =

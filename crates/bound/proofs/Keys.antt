@@ -1,11 +1,11 @@
--- All that the bound asks of keys, whatever they are made of: the parts of an item keep its key, and an entry that goes on with them agrees with that key, so the walk passes over it.
+-- All that the bound asks of keys, whatever they are made of: the parts of an item keep its key, and an entry that
+-- goes on with them agrees with that key, so the walk passes over it.
 use Prim.Native.Nat.{ℕ}
 use mathlib.Core.Path.{◌≡◌, refl, sym}
 use mathlib.Core.Bool.{true}
 use mathlib.Core.List.{List}
 use lib.Dec.{eqb}
 use Rattle.fields.specs.Known.{known_type}
-use Rattle.fields.specs.Pick.{pick}
 use Rattle.fields.specs.Answer.{Answer, gives, ends, refuses}
 use Rattle.fields.specs.declared.RecordNumber.{RecordNumber}
 use Rattle.fields.proofs.Cases.{yes}

@@ -1,8 +1,9 @@
--- Where the raw walk stands tells the open list: while it stands there no list is opened, and the one that is open keeps its end.
+-- Where the raw walk stands tells the open list: while it stands there no list is opened, and the one that is open
+-- keeps its end.
 use Prim.Native.Nat.{ℕ, ◌+◌, ◌<◌}
 use mathlib.Core.Path.{◌≡◌, refl}
 use mathlib.Core.Bool.{Bool, true, false}
-use mathlib.Core.Logic.{◌⊎◌, inl, inr}
+use mathlib.Core.Logic.{inl, inr}
 use mathlib.Core.List.{List}
 use Rattle.std.specs.Prelude.{Option}
 use native.Mathlib.Omega.{arith}
@@ -22,17 +23,10 @@ use Rattle.raw.proofs.Given.{of-step}
 use Rattle.list.specs.Entry.{entry_of}
 use Rattle.list.specs.declared.Entry.{Entry}
 use Rattle.turns.specs.State.{part_of}
-use Rattle.turns.specs.Turn.{Small, passes, answers, closed, past, found_turn, sought_turn, looked_turn, given_turn, entry_after, entry_turn, list_turn, raw_after, raw_turn}
+use Rattle.turns.specs.Turn.{closed, past, found_turn, sought_turn, looked_turn, given_turn, entry_after, entry_turn, list_turn, raw_after, raw_turn}
 use Rattle.items.specs.Items.{small_step}
 use Rattle.turns.specs.declared.State.{State}
-
--- from w to v the raw walk goes on, or stands and an open list is the one that was open
-abbrev pub Held : State → State → Type 0
-Held w v = (w.raw < v.raw) ⊎ ((w.raw ≡ v.raw) × (v.list.is ≡ true → (w.list.is ≡ true) × (w.list.to ≡ v.list.to)))
-
-abbrev pub Holds : State → Small → Type 0
-Holds w (passes v k) = Held w v
-Holds w (answers a v k) = Held w v
+use Rattle.bound.specs.Lists.{Held, Holds}
 
 module _ (s : List ℕ) (n : RecordNumber) (look : RecordNumber → Option (List ℕ)) (w : State) where
   closed-held : Held w (closed w)

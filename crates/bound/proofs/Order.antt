@@ -1,9 +1,9 @@
--- The attributes that the walk itself reads in the base record: the raw place moves past each that is read, and by nothing else; so each begins where the one before ended.
+-- The attributes that the walk itself reads in the base record: the raw place moves past each that is read, and by
+-- nothing else; so each begins where the one before ended.
 use Prim.Native.Nat.{ℕ, zero, suc, ◌+◌}
 use mathlib.Core.Path.{◌≡◌, refl, sym, ap, subst, ◌∙◌}
 use mathlib.Core.List.{List, [], ◌∷◌, ◌++◌}
-use Rattle.std.specs.Prelude.{Option}
-use lib.ListN.{length}
+use mathlib.Core.Option.{Option}
 use lib.Dec.{eqb, ltb}
 use Rattle.fields.specs.Known.{known_type}
 use Rattle.turns.specs.Key.{agrees}
@@ -20,7 +20,6 @@ use Rattle.raw.specs.Find as find
 use Rattle.raw.specs.declared.Attribute.{Attribute}
 use Rattle.values.specs.declared.Span.{Span}
 use Rattle.raw.proofs.Finds as finds
-use Rattle.raw.proofs.Given.{Given, of-step}
 use Rattle.list.specs.Entry.{entry_of}
 use Rattle.list.specs.declared.Entry.{Entry}
 use Rattle.lookup.specs.Lookup.{lookup_in}
@@ -36,26 +35,24 @@ use Rattle.part.specs.Join.{judge_part, key_for}
 use Rattle.parts.specs.Parts.{Stepped, lists, stops, cursor, step_in}
 use Rattle.parts.specs.declared.Cursor.{Cursor}
 use Rattle.bound.specs.Trail.{Read, own, entry, sought, joined, seen, find_trail, raw_trail, looked_trail, lookup_trail, search_trail, entry_trail, step_trail, next_trail, join_trail, keyed_trail, entered_trail, part_trail, parts_onward, parts_trail_run, parts_trail, trail_after, trail_next, trail_from, trail_of, own_of}
-use Rattle.bound.proofs.Facts.{both_by}
+use Rattle.bound.specs.Whole.{ReadAt, Follow}
+use Rattle.bound.proofs.Facts.{both_by, read_at}
 use Rattle.bound.proofs.Trails.{trailed}
 
--- each of them stands in the record where the one before ended, the first at p: at least 16 bytes long, and it ends inside
-abbrev pub Follow : List ℕ → ℕ → List Attribute → Type 0
-Follow s p [] = Unit {0}
-Follow s p (h ∷ l) = Given s p h × Follow s (p + h.length) l
+-- each of them stands in the record where the one before ended, the first at p, and the last ends at q
+abbrev Follows : List ℕ → RecordNumber → ℕ → List Attribute → ℕ → Type 0
+Follows s n p [] q = p ≡ q
+Follows s n p (h ∷ l) q = ReadAt s n p h × Follows s n (p + h.length) l q
 
--- and the last ends at q
-abbrev Follows : List ℕ → ℕ → List Attribute → ℕ → Type 0
-Follows s p [] q = p ≡ q
-Follows s p (h ∷ l) q = Given s p h × Follows s (p + h.length) l q
+follows-append : (s : List ℕ) (n : RecordNumber) (p q r : ℕ) (l k : List Attribute) → Follows s n p l q
+    → Follows s n q k r → Follows s n p (l ++ k) r
+follows-append s n p q r [] k a b = subst (λ (x : ℕ). Follows s n x k r) (sym a) b
+follows-append s n p q r (h ∷ l) k a b = (a.0, follows-append s n (p + h.length) q r l k a.1 b)
 
-follows-append : (s : List ℕ) (p q r : ℕ) (l k : List Attribute) → Follows s p l q → Follows s q k r → Follows s p (l ++ k) r
-follows-append s p q r [] k a b = subst (λ (x : ℕ). Follows s x k r) (sym a) b
-follows-append s p q r (h ∷ l) k a b = (a.0, follows-append s (p + h.length) q r l k a.1 b)
-
-follows_on : (s : List ℕ) (p q : ℕ) (l k : List Attribute) → Follows s p l q → Follow s q k → Follow s p (l ++ k)
-follows_on s p q [] k a b = subst (λ (x : ℕ). Follow s x k) (sym a) b
-follows_on s p q (h ∷ l) k a b = (a.0, follows_on s (p + h.length) q l k a.1 b)
+follows_on : (s : List ℕ) (n : RecordNumber) (p q : ℕ) (l k : List Attribute) → Follows s n p l q → Follow s n q k
+    → Follow s n p (l ++ k)
+follows_on s n p q [] k a b = subst (λ (x : ℕ). Follow s n x k) (sym a) b
+follows_on s n p q (h ∷ l) k a b = (a.0, follows_on s n (p + h.length) q l k a.1 b)
 
 own-append : (l k : List Read) → own_of (l ++ k) ≡ own_of l ++ own_of k
 unfolding own_of
@@ -83,7 +80,8 @@ seen-foreign n (gives h) = refl
 seen-foreign n ends = refl
 seen-foreign n (refuses r) = refl
 
-find-foreign : (s : List ℕ) (n : RecordNumber) (ty instance : ℕ) (miss : Refusal) → Foreign (find_trail s n ty instance miss)
+find-foreign : (s : List ℕ) (n : RecordNumber) (ty instance : ℕ) (miss : Refusal)
+    → Foreign (find_trail s n ty instance miss)
 unfolding find_trail
 find-foreign s n ty instance miss =
     trailed (find.left s n ty instance miss) (find.turn s n ty instance miss) (find.counted (refuses miss) 0) (λ p. seen n (step_at s n p.at))
@@ -116,13 +114,15 @@ module _ (s : List ℕ) (n : RecordNumber) (look : RecordNumber → Option (List
   Keeps w (passes v k) = w.raw ≡ v.raw
   Keeps w (answers a v k) = w.raw ≡ v.raw
 
-  found-keeps : (part : List ℕ) (w : State) (e : Entry) (a : Answer Attribute) (k : ℕ) → Keeps w (found_turn part w e a k)
+  found-keeps : (part : List ℕ) (w : State) (e : Entry) (a : Answer Attribute) (k : ℕ)
+      → Keeps w (found_turn part w e a k)
   unfolding found_turn
   found-keeps part w e ends k = refl
   found-keeps part w e (refuses r) k = refl
   found-keeps part w e (gives x) k = both (Keeps w) x.resident _ _ refl refl
 
-  looked-keeps : (part : List ℕ) (w : State) (e : Entry) (a : Answer (List ℕ)) → Keeps w (looked_turn s n look part w e a)
+  looked-keeps : (part : List ℕ) (w : State) (e : Entry) (a : Answer (List ℕ))
+      → Keeps w (looked_turn s n look part w e a)
   unfolding looked_turn sought_turn
   looked-keeps part w e ends = refl
   looked-keeps part w e (refuses r) = refl
@@ -136,17 +136,19 @@ module _ (s : List ℕ) (n : RecordNumber) (look : RecordNumber → Option (List
 
   -- a small step: the raw place moves past what it reads
   abbrev Moves : State → Small → List Read → Type 0
-  Moves w (passes v k) l = Follows s w.raw (own_of l) v.raw
-  Moves w (answers a v k) l = Follows s w.raw (own_of l) v.raw
+  Moves w (passes v k) l = Follows s n w.raw (own_of l) v.raw
+  Moves w (answers a v k) l = Follows s n w.raw (own_of l) v.raw
 
   keeps-moves : (w : State) (x : Small) (l : List Read) → Keeps w x → Foreign l → Moves w x l
-  keeps-moves w (passes v k) l h f = subst (λ (y : List Attribute). Follows s w.raw y v.raw) (sym f) h
-  keeps-moves w (answers a v k) l h f = subst (λ (y : List Attribute). Follows s w.raw y v.raw) (sym f) h
+  keeps-moves w (passes v k) l h f = subst (λ (y : List Attribute). Follows s n w.raw y v.raw) (sym f) h
+  keeps-moves w (answers a v k) l h f = subst (λ (y : List Attribute). Follows s n w.raw y v.raw) (sym f) h
 
-  entry-moves : (part : List ℕ) (w : State) (a : Answer Entry) → Moves w (entry_after s n look part w a) (entry_trail s n look part w a)
+  entry-moves : (part : List ℕ) (w : State) (a : Answer Entry)
+      → Moves w (entry_after s n look part w a) (entry_trail s n look part w a)
   entry-moves part w a = keeps-moves w (entry_after s n look part w a) (entry_trail s n look part w a) (entry-keeps part w a) (entry-foreign part w a)
 
-  list-moves : (w : State) (h : Attribute) → Given s w.raw h → (a : Answer Span) → Moves w (list_turn w h a) (own h ∷ [])
+  list-moves : (w : State) (h : Attribute) → ReadAt s n w.raw h → (a : Answer Span)
+      → Moves w (list_turn w h a) (own h ∷ [])
   unfolding list_turn own_of
   list-moves w h g ends = (g, refl)
   list-moves w h g (refuses r) = (g, refl)
@@ -157,7 +159,7 @@ module _ (s : List ℕ) (n : RecordNumber) (look : RecordNumber → Option (List
   raw-moves w ends e = refl
   raw-moves w (refuses r) e = refl
   raw-moves w (gives h) e =
-      let g = of-step s n w.raw h e in
+      let g = read_at s n w.raw h e in
       both (λ x. Moves w x (own h ∷ [])) (eqb h.ty 0x20) _ _ (list-moves w h g (list_in s n h)) (g, refl)
 
   step-moves : (w : State) → Moves w (small_step s n look w) (step_trail s n look w)
@@ -166,23 +168,26 @@ module _ (s : List ℕ) (n : RecordNumber) (look : RecordNumber → Option (List
 
   -- a call of the walk
   abbrev Moved : Going → List Read → Left → Type 0
-  Moved g l a = Follows s g.at.raw (own_of l) a.left.raw
+  Moved g l a = Follows s n g.at.raw (own_of l) a.left.raw
 
-  moved_on : (p q r : ℕ) (l k : List Read) → Follows s p (own_of l) q → Follows s q (own_of k) r → Follows s p (own_of (l ++ k)) r
-  moved_on p q r l k a b = subst (λ (x : List Attribute). Follows s p x r) (sym (own-append l k)) (follows-append s p q r (own_of l) (own_of k) a b)
+  moved_on : (p q r : ℕ) (l k : List Read) → Follows s n p (own_of l) q → Follows s n q (own_of k) r
+      → Follows s n p (own_of (l ++ k)) r
+  moved_on p q r l k a b = subst (λ (x : List Attribute). Follows s n p x r) (sym (own-append l k)) (follows-append s n p q r (own_of l) (own_of k) a b)
 
-  moved-stop : (g : Going) (a : Left) (x : Small) (l : List Read) → Moves g.at x l → turn_after s n look g.reads x ≡ stop a → Moved g (l ++ []) a
+  moved-stop : (g : Going) (a : Left) (x : Small) (l : List Read) → Moves g.at x l
+      → turn_after s n look g.reads x ≡ stop a → Moved g (l ++ []) a
   unfolding turn_after own_of
   moved-stop g a (passes v k) l h e = absurd (go-stop e)
   moved-stop g a (answers b v k) l h e = subst (Moved g (l ++ [])) (the-stop e) (moved_on g.at.raw v.raw v.raw l [] h refl)
 
-  moved-go : (g t : Going) (k : List Read) (a : Left) (x : Small) (l : List Read) → Moves g.at x l → turn_after s n look g.reads x ≡ go t → Moved t k a → Moved g (l ++ k) a
+  moved-go : (g t : Going) (k : List Read) (a : Left) (x : Small) (l : List Read) → Moves g.at x l
+      → turn_after s n look g.reads x ≡ go t → Moved t k a → Moved g (l ++ k) a
   unfolding turn_after
   moved-go g t k a (passes v c) l h e m =
-      moved_on g.at.raw t.at.raw a.left.raw l k (subst (λ (y : Going). Follows s g.at.raw (own_of l) y.at.raw) (the-go e) h) m
+      moved_on g.at.raw t.at.raw a.left.raw l k (subst (λ (y : Going). Follows s n g.at.raw (own_of l) y.at.raw) (the-go e) h) m
   moved-go g t k a (answers b v c) l h e m = absurd (stop-go e)
 
-  next-moves : (w : State) → Follows s w.raw (own_of (next_trail s n look w)) (next_in s n look w).left.raw
+  next-moves : (w : State) → Follows s n w.raw (own_of (next_trail s n look w)) (next_in s n look w).left.raw
   unfolding next_in next_trail turn
   next-moves w =
       trailed (λ x. measure s x.at) (turn s n look) never (λ x. step_trail s n look x.at) (falls s n look) Moved
@@ -197,13 +202,15 @@ module _ (s : List ℕ) (n : RecordNumber) (look : RecordNumber → Option (List
     join-foreign k e place ends = none-own
     join-foreign k e place (refuses r) = none-own
 
-    entered-foreign : (k : ℕ) (c : Cursor) (part : List ℕ) (a : Answer Entry) → Foreign (entered_trail s n look room k c part a)
+    entered-foreign : (k : ℕ) (c : Cursor) (part : List ℕ) (a : Answer Entry)
+        → Foreign (entered_trail s n look room k c part a)
     unfolding entered_trail keyed_trail own_of
     entered-foreign k c part (gives e) = join-foreign k e c.list.from (judge_part (key_for c.key e part) e part n c.list.from)
     entered-foreign k c part ends = refl
     entered-foreign k c part (refuses r) = refl
 
-    onward-foreign : (x : Stepped) (l : Cursor → List Read) → ((d : Cursor) → Foreign (l d)) → Foreign (parts_onward s n look room l x)
+    onward-foreign : (x : Stepped) (l : Cursor → List Read) → ((d : Cursor) → Foreign (l d))
+        → Foreign (parts_onward s n look room l x)
     unfolding parts_onward
     onward-foreign (lists p d k) l ih = ih d
     onward-foreign (stops a k) l ih = none-own
@@ -220,24 +227,25 @@ module _ (s : List ℕ) (n : RecordNumber) (look : RecordNumber → Option (List
     parts-foreign l = both Foreign l.is _ _ (run-foreign _ 0 (cursor l no_key)) none-own
 
     -- all the calls
-    calls-after : (p : ℕ) (t : List Read) (v : State) (a : Answer Item) → Follows s p (own_of t) v.raw → (l : State → List Read) → ((v : State) → Follow s v.raw (own_of (l v)))
-        → Follow s p (own_of (t ++ trail_after s n look room l v a))
+    calls-after : (p : ℕ) (t : List Read) (v : State) (a : Answer Item) → Follows s n p (own_of t) v.raw
+        → (l : State → List Read) → ((v : State) → Follow s n v.raw (own_of (l v)))
+        → Follow s n p (own_of (t ++ trail_after s n look room l v a))
     unfolding trail_after own_of
     calls-after p t v (gives i) h l ih =
         let q : own_of (parts_trail s n look room i.rest ++ l v) ≡ own_of (l v) =
         own-append (parts_trail s n look room i.rest) (l v) ∙ ap (λ (x : List Attribute). x ++ own_of (l v)) (parts-foreign i.rest) in
-        subst (Follow s p) (sym (own-append t (parts_trail s n look room i.rest ++ l v) ∙ ap (λ (x : List Attribute). own_of t ++ x) q))
-        (follows_on s p v.raw (own_of t) (own_of (l v)) h (ih v))
-    calls-after p t v ends h l ih = subst (Follow s p) (sym (own-append t [])) (follows_on s p v.raw (own_of t) [] h tt)
-    calls-after p t v (refuses r) h l ih = subst (Follow s p) (sym (own-append t [])) (follows_on s p v.raw (own_of t) [] h tt)
+        subst (Follow s n p) (sym (own-append t (parts_trail s n look room i.rest ++ l v) ∙ ap (λ (x : List Attribute). own_of t ++ x) q))
+        (follows_on s n p v.raw (own_of t) (own_of (l v)) h (ih v))
+    calls-after p t v ends h l ih = subst (Follow s n p) (sym (own-append t [])) (follows_on s n p v.raw (own_of t) [] h tt)
+    calls-after p t v (refuses r) h l ih = subst (Follow s n p) (sym (own-append t [])) (follows_on s n p v.raw (own_of t) [] h tt)
 
-    calls-follow : (f : ℕ) (w : State) → Follow s w.raw (own_of (trail_from s n look room f w))
+    calls-follow : (f : ℕ) (w : State) → Follow s n w.raw (own_of (trail_from s n look room f w))
     unfolding trail_from trail_next own_of
     calls-follow zero w = tt
     calls-follow (suc f) w =
         calls-after w.raw (next_trail s n look w) (next_in s n look w).left (next_in s n look w).answer (next-moves w) (trail_from s n look room f) (calls-follow f)
 
     -- from the first attribute offset on
-    pub own-follow : Follow s (first_attribute s) (own_of (trail_of s n look room))
+    pub own-follow : Follow s n (first_attribute s) (own_of (trail_of s n look room))
     unfolding trail_of fresh_of
     own-follow = calls-follow (suc (measure s (fresh_of s))) (fresh_of s)

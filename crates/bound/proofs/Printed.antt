@@ -1,9 +1,9 @@
 -- The count that a listing prints in its last line is that of the third demand, and so at most a + 3e + 2ea.
-use Prim.Native.Nat.{ℕ, zero, suc, ◌+◌, ◌*◌, ◌/◌, ◌≤◌, ◌<◌, zero-le}
+use Prim.Native.Nat.{ℕ, zero, suc, ◌<◌, zero-le}
 use mathlib.Core.Path.{◌≡◌, refl}
-use mathlib.Core.Logic.{◌⊎◌, inl, inr}
+use mathlib.Core.Logic.{inl, inr}
 use mathlib.Core.List.{List, [], ◌∷◌, ◌++◌}
-use Rattle.std.specs.Prelude.{Option, Some, None}
+use mathlib.Core.Option.{Option, none, some}
 use native.Mathlib.Nat.{not-suc-le-zero, lt-suc_self}
 use native.Mathlib.Omega.{arith}
 use borrow.Author.Tests.{eqb-true}
@@ -23,16 +23,11 @@ use Rattle.turns.specs.declared.State.{State}
 use Rattle.turns.specs.declared.Item.{Item}
 use Rattle.items.proofs.Kept.{next-sinks}
 use Rattle.bound.specs.Run.{count_after, count_next, count_run, count_from, count_of}
-use Rattle.bound.proofs.Third.{Third, third, table-sized}
-use Rattle.line.specs.Lines.{Text, record_line, end_line, stopped_line}
-use Rattle.lines.specs.Listing.{item_lines, lines_after, lines_next, lines_run, walk_lines, opened_lines, table_refused, base_lines, checked_lines, listing_of}
+use Rattle.bound.specs.Printed.{Last, ended, stopped, before, Tells, Listed}
+use Rattle.bound.proofs.Third.{third, table-sized}
+use Rattle.line.specs.Lines.{Text}
+use Rattle.lines.specs.Listing.{item_lines, lines_after, lines_next, lines_run, walk_lines, opened_lines, base_lines, checked_lines, listing_of}
 use Rattle.gather.specs.Gather.{room, parts_for}
-
--- lines whose last is `end reads c` or `stopped N reads c`
-pub data Last (c : ℕ) : List Text → Type 0 where
-  ended : Last c (end_line c ∷ [])
-  stopped : (r : ℕ) → Last c (stopped_line r c ∷ [])
-  before : (x : Text) (l : List Text) → Last c l → Last c (x ∷ l)
 
 behind : {c : ℕ} (l k : List Text) → Last c k → Last c (l ++ k)
 behind [] k h = h
@@ -40,13 +35,15 @@ behind (x ∷ l) k h = before x (l ++ k) (behind l k h)
 
 module _ (s : List ℕ) (n : RecordNumber) (look : RecordNumber → Option (List ℕ)) where
   printed-after : (on : ℕ → State → List Text) (count : ℕ → State → ℕ) (k : ℕ) (v : State) (a : Answer Item)
-      → ((i : Item) → a ≡ gives i → (k : ℕ) → Last (count k v) (on k v)) → Last (count_after s n look room count k v a) (lines_after s n look on k v a)
+      → ((i : Item) → a ≡ gives i → (k : ℕ) → Last (count k v) (on k v))
+      → Last (count_after s n look room count k v a) (lines_after s n look on k v a)
   unfolding count_after lines_after parts_for
   printed-after on count k v (gives i) h = behind (item_lines s n look i) _ (h i refl _)
   printed-after on count k v ends h = ended
   printed-after on count k v (refuses r) h = stopped r.number
 
-  printed-run : (f k : ℕ) (w : State) → measure s w < f → Last (count_run s n look room f k w) (lines_run s n look f k w)
+  printed-run : (f k : ℕ) (w : State) → measure s w < f
+      → Last (count_run s n look room f k w) (lines_run s n look f k w)
   unfolding count_run count_next lines_run lines_next
   printed-run zero k w h = absurd (not-suc-le-zero h)
   printed-run (suc f) k w h =
@@ -57,12 +54,6 @@ module _ (s : List ℕ) (n : RecordNumber) (look : RecordNumber → Option (List
   pub printed : Last (count_of s n look room) (walk_lines s n look 0 (fresh_of s))
   unfolding count_of count_from walk_lines
   printed = printed-run (suc (measure s (fresh_of s))) 0 (fresh_of s) (lt-suc_self (measure s (fresh_of s)))
-
--- the listing of a table t whose base record is s: its last line tells a count, which is at most a + 3e + 2ea
-pub record Tells (s : List ℕ) (l : List Text) : Type 0 where
-  pub count : ℕ
-  pub last : Last count l
-  pub few : count ≤ length s / 16 + 3 * (length s / 26) + 2 * (length s / 26 * (length s / 16))
 
 -- checks 1 and 2 pass or refuse
 abbrev Sure : Answer Unit → Type 0
@@ -90,14 +81,11 @@ module _ (t : List ℕ) (h : TableHeader) (q : table_of t ≡ gives h) (b : Held
   opened-tells x ends e y = absurd y
   opened-tells x (refuses r) e y = record { count = 0; last = before x _ (stopped r.number); few = zero-le }
 
--- a listing says that the table is refused, or tells such a count of the table's base record
-abbrev pub Listed : List ℕ → List Text → Type 0
-Listed t l = (l ≡ table_refused) ⊎ ((b : Held) × (base_of t ≡ Some b) × Tells b.bytes l)
-
-base-listed : (t : List ℕ) (h : TableHeader) → table_of t ≡ gives h → (o : Option Held) → base_of t ≡ o → Listed t (base_lines t h o)
+base-listed : (t : List ℕ) (h : TableHeader) → table_of t ≡ gives h → (o : Option Held) → base_of t ≡ o
+    → Listed t (base_lines t h o)
 unfolding base_lines
-base-listed t h q (Some b) e = inr (b, e, opened-tells t h q b _ _ refl (open-sure b.bytes b.number h.size))
-base-listed t h q None e = inl refl
+base-listed t h q (some b) e = inr (b, e, opened-tells t h q b _ _ refl (open-sure b.bytes b.number h.size))
+base-listed t h q none e = inl refl
 
 checked-listed : (t : List ℕ) (a : Answer TableHeader) → table_of t ≡ a → Listed t (checked_lines t a)
 unfolding checked_lines

@@ -33,7 +33,8 @@ use Rattle.turns.specs.declared.Rest.{Rest}
 use Rattle.parts.specs.Parts.{parts_in}
 use Rattle.bound.specs.Run.{Spot, spot, gave_in, spots_of}
 use Rattle.bound.proofs.Value.{R, E, R-step, E-step, E-mono, val, val-pass, val-raw, val-entry, val-item, val-one, val-some}
-use Rattle.bound.proofs.Facts.{Sized, few, stood, by-test}
+use Rattle.bound.specs.Whole.{Sized}
+use Rattle.bound.proofs.Facts.{few, stood, by-test}
 use Rattle.bound.proofs.Rising as rising
 use Rattle.bound.proofs.Rising.{Rising}
 use Rattle.bound.proofs.Stretch.{here, Run, peel, no-stretch, begun}
@@ -157,7 +158,8 @@ module _ (s : List ℕ) (n : RecordNumber) where
           found-good (refuses r) = entry-some c h
           found-good (gives x) = both (Good w g) x.resident _ _ (alone _ refl without) (parted _ refl)
 
-        looked-good : agrees w.key e (listPart s w.list) ≡ false → (a : Answer (List ℕ)) → lookup_in s n look e.file w.list.from ≡ a
+        looked-good : agrees w.key e (listPart s w.list) ≡ false → (a : Answer (List ℕ))
+            → lookup_in s n look e.file w.list.from ≡ a
             → Good w g (looked_turn s n look (listPart s w.list) w e a)
         unfolding looked_turn sought_turn
         looked-good d ends p = entry-some 0 zero-le
@@ -184,7 +186,8 @@ module _ (s : List ℕ) (n : RecordNumber) where
             rises = rising.here w.raw g g (le_refl g);
           }
 
-      entry-good : w.list.is ≡ true → (a : Answer Entry) → here s n w.list ≡ a → Good w g (entry_after s n look (listPart s w.list) w a)
+      entry-good : w.list.is ≡ true → (a : Answer Entry) → here s n w.list ≡ a
+          → Good w g (entry_after s n look (listPart s w.list) w a)
       unfolding entry_after
       entry-good o ends q = list-ends o
       entry-good o (refuses r) q = zero-le
@@ -201,7 +204,8 @@ module _ (s : List ℕ) (n : RecordNumber) where
           raw-one = val-one _ _ _ _ (omega (arith, raw-step))
 
           -- past the attribute; a list that it opens is no longer than it
-          onto : (l : Rest) → (l.is ≡ true → l.to - l.from ≤ h.length) → Goes w g (state (w.raw + h.length) l w.key) 1 []
+          onto : (l : Rest) → (l.is ≡ true → l.to - l.from ≤ h.length)
+              → Goes w g (state (w.raw + h.length) l w.key) 1 []
           unfolding worth
           onto l f =
               let v = state (w.raw + h.length) l w.key in
@@ -215,7 +219,8 @@ module _ (s : List ℕ) (n : RecordNumber) where
                 rises = inl (omega arith);
               }
             where
-              short : (l : Rest) → (l.is ≡ true → l.to - l.from ≤ h.length) → (t : Bool) → l.is ≡ t → left (state (w.raw + h.length) l w.key) l.from ≤ length s - w.raw + 0
+              short : (l : Rest) → (l.is ≡ true → l.to - l.from ≤ h.length) → (t : Bool) → l.is ≡ t
+                  → left (state (w.raw + h.length) l w.key) l.from ≤ length s - w.raw + 0
               short l f true e = let c = f e in let b = k.most in omega (arith, left_open (state (w.raw + h.length) l w.key) l.from e)
               short l f false e = omega (arith, left-shut (state (w.raw + h.length) l w.key) l.from e)
 

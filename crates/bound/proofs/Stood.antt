@@ -1,8 +1,10 @@
--- Each element of the trail stands where it is said to: an attribute by checks 3 to 5 in the base record or in one that was looked up, an entry by checks 14 to 16 in its list.
+-- Each element of the trail stands where it is said to: an attribute by checks 3 to 5 in the base record or in one
+-- that was looked up, an entry by checks 14 to 16 in its list.
 use Prim.Native.Nat.{ℕ, zero, suc, ◌+◌}
-use mathlib.Core.Path.{◌≡◌, refl, sym, subst}
+use mathlib.Core.Path.{◌≡◌, refl}
 use mathlib.Core.List.{List, [], ◌∷◌, ◌++◌}
-use Rattle.std.specs.Prelude.{Option}
+use mathlib.Core.Option.{Option}
+use Rattle.std.specs.List.{AllByRecursion}
 use lib.Dec.{eqb, ltb}
 use Rattle.fields.specs.Known.{known_type}
 use Rattle.turns.specs.Key.{agrees}
@@ -15,7 +17,6 @@ use Rattle.raw.specs.Step.{step_at}
 use Rattle.raw.specs.Find as find
 use Rattle.raw.specs.declared.Attribute.{Attribute}
 use Rattle.raw.proofs.Finds as finds
-use Rattle.raw.proofs.Given.{Given, of-step}
 use Rattle.list.specs.Entry.{entry_of}
 use Rattle.list.specs.declared.Entry.{Entry}
 use Rattle.lookup.specs.Lookup.{lookup_in}
@@ -29,26 +30,14 @@ use Rattle.items.proofs.Kept.{falls}
 use Rattle.part.specs.Join.{judge_part, key_for}
 use Rattle.parts.specs.Parts.{Stepped, lists, stops, cursor, step_in}
 use Rattle.parts.specs.declared.Cursor.{Cursor}
-use Rattle.bound.specs.Trail.{Read, own, entry, sought, joined, seen, find_trail, raw_trail, looked_trail, lookup_trail, search_trail, entry_trail, step_trail, next_trail, join_trail, keyed_trail, entered_trail, part_trail, parts_onward, parts_trail_run, parts_trail, trail_after, trail_next, trail_from, trail_of}
+use Rattle.bound.specs.Trail.{Read, seen, find_trail, raw_trail, looked_trail, lookup_trail, search_trail, entry_trail, step_trail, next_trail, join_trail, keyed_trail, entered_trail, part_trail, parts_onward, parts_trail_run, parts_trail, trail_after, trail_next, trail_from, trail_of}
+use Rattle.bound.specs.Whole.{Stands}
+use Rattle.bound.proofs.Facts.{read_there}
 use Rattle.bound.proofs.Trails.{trailed}
 
 module _ (s : List ℕ) (n : RecordNumber) (look : RecordNumber → Option (List ℕ)) where
-  -- an attribute of a record that was looked up
-  pub record Elsewhere (file : RecordNumber) (h : Attribute) : Type 0 where
-    pub place : ℕ
-    pub bytes : List ℕ
-    pub looked : lookup_in s n look file place ≡ gives bytes
-    pub given : Given bytes h.offset h
-
-  abbrev pub Stands : Read → Type 0
-  Stands (own h) = Given s h.offset h
-  Stands (entry l e) = entry_of (listPart s l) n l.from ≡ gives e
-  Stands (sought f h) = Elsewhere f h
-  Stands (joined l e) = entry_of (listPart s l) n l.from ≡ gives e
-
   abbrev pub All : List Read → Type 0
-  All [] = Unit {0}
-  All (x ∷ l) = Stands x × All l
+  All = AllByRecursion (Stands s n look)
 
   all_append : (l k : List Read) → All l → All k → All (l ++ k)
   all_append [] k a b = b
@@ -59,8 +48,7 @@ module _ (s : List ℕ) (n : RecordNumber) (look : RecordNumber → Option (List
     seen_all : (p : ℕ) (a : Answer Attribute) → step_at t e.file p ≡ a → All (seen e.file a)
     unfolding seen
     seen_all p (gives h) g =
-        let w = of-step t e.file p h g in
-        (record { place = place; bytes = t; looked = q; given = subst (λ (x : ℕ). Given t x h) (sym w.stands) w }, tt)
+        (record { place = place; bytes = t; looked = q; read = read_there t e.file p h g }, tt)
     seen_all p ends g = tt
     seen_all p (refuses r) g = tt
 
@@ -72,7 +60,8 @@ module _ (s : List ℕ) (n : RecordNumber) (look : RecordNumber → Option (List
         (λ p a g. all_append (seen e.file (step_at t e.file p.at)) [] (seen_all p.at _ refl) tt)
         (λ p q l a g h. all_append (seen e.file (step_at t e.file p.at)) l (seen_all p.at _ refl) h) (find.place (first_attribute t) 0)
 
-  looked-all : (e : Entry) (place : ℕ) (a : Answer (List ℕ)) → lookup_in s n look e.file place ≡ a → All (looked_trail s n look e place a)
+  looked-all : (e : Entry) (place : ℕ) (a : Answer (List ℕ)) → lookup_in s n look e.file place ≡ a
+      → All (looked_trail s n look e place a)
   unfolding looked_trail
   looked-all e place (gives t) q = find-all e place t q _
   looked-all e place ends q = tt
@@ -83,7 +72,8 @@ module _ (s : List ℕ) (n : RecordNumber) (look : RecordNumber → Option (List
   lookup-all e place = looked-all e place _ refl
 
   -- a small step of the walk
-  entry-all : (w : State) (a : Answer Entry) → entry_of (listPart s w.list) n w.list.from ≡ a → All (entry_trail s n look (listPart s w.list) w a)
+  entry-all : (w : State) (a : Answer Entry) → entry_of (listPart s w.list) n w.list.from ≡ a
+      → All (entry_trail s n look (listPart s w.list) w a)
   unfolding entry_trail search_trail
   entry-all w (gives e) q = (q, both All (known_type e.ty) _ _ (both All (eqb e.file.0 n.0) _ _ tt (both All (agrees w.key e (listPart s w.list)) _ _ tt (lookup-all e _))) tt)
   entry-all w ends q = tt
@@ -91,7 +81,7 @@ module _ (s : List ℕ) (n : RecordNumber) (look : RecordNumber → Option (List
 
   raw-all : (w : State) (a : Answer Attribute) → step_at s n w.raw ≡ a → All (raw_trail a)
   unfolding raw_trail
-  raw-all w (gives h) e = let g = of-step s n w.raw h e in (subst (λ (x : ℕ). Given s x h) (sym g.stands) g, tt)
+  raw-all w (gives h) e = (read_there s n w.raw h e, tt)
   raw-all w ends e = tt
   raw-all w (refuses r) e = tt
 
@@ -113,13 +103,15 @@ module _ (s : List ℕ) (n : RecordNumber) (look : RecordNumber → Option (List
     join-all k e place ends = tt
     join-all k e place (refuses r) = tt
 
-    entered_all : (k : ℕ) (c : Cursor) (a : Answer Entry) → entry_of (listPart s c.list) n c.list.from ≡ a → All (entered_trail s n look room k c (listPart s c.list) a)
+    entered_all : (k : ℕ) (c : Cursor) (a : Answer Entry) → entry_of (listPart s c.list) n c.list.from ≡ a
+        → All (entered_trail s n look room k c (listPart s c.list) a)
     unfolding entered_trail keyed_trail
     entered_all k c (gives e) q = (q, join-all k e c.list.from (judge_part (key_for c.key e (listPart s c.list)) e (listPart s c.list) n c.list.from))
     entered_all k c ends q = tt
     entered_all k c (refuses r) q = tt
 
-    onward-all : (x : Stepped) (l : Cursor → List Read) → ((d : Cursor) → All (l d)) → All (parts_onward s n look room l x)
+    onward-all : (x : Stepped) (l : Cursor → List Read) → ((d : Cursor) → All (l d))
+        → All (parts_onward s n look room l x)
     unfolding parts_onward
     onward-all (lists p d k) l ih = ih d
     onward-all (stops a k) l ih = tt
@@ -135,7 +127,8 @@ module _ (s : List ℕ) (n : RecordNumber) (look : RecordNumber → Option (List
     parts_all l = both All l.is _ _ (run-all _ 0 (cursor l no_key)) tt
 
     -- all the calls
-    calls-after : (v : State) (a : Answer Item) (l : State → List Read) → ((v : State) → All (l v)) → All (trail_after s n look room l v a)
+    calls-after : (v : State) (a : Answer Item) (l : State → List Read) → ((v : State) → All (l v))
+        → All (trail_after s n look room l v a)
     unfolding trail_after
     calls-after v (gives i) l ih = all_append (parts_trail s n look room i.rest) (l v) (parts_all i.rest) (ih v)
     calls-after v ends l ih = tt

@@ -1,4 +1,5 @@
--- The stretch of a list that an item's parts take: behind the item's own entry, entry after entry agrees with the item's key; each pays for itself and its lookup.
+-- The stretch of a list that an item's parts take: behind the item's own entry, entry after entry agrees with the
+-- item's key; each pays for itself and its lookup.
 use Prim.Native.Nat.{ℕ, zero, suc, ◌+◌, ◌-◌, ◌*◌, ◌/◌, ◌≤◌}
 use mathlib.Core.Path.{◌≡◌, refl, sym, subst, subst₂, ◌∙◌}
 use mathlib.Core.Bool.{true, false}
@@ -27,7 +28,8 @@ use Rattle.part.specs.declared.Part.{Part}
 use Rattle.parts.specs.declared.Cursor.{Cursor}
 use Rattle.bound.specs.Run.{Spot, spot, gave_after, gave_run, gave_from, gave_in}
 use Rattle.bound.proofs.Value.{E, E-step, pay-part, pay-last}
-use Rattle.bound.proofs.Facts.{Sized, few, stood}
+use Rattle.bound.specs.Whole.{Sized}
+use Rattle.bound.proofs.Facts.{few, stood}
 use Rattle.bound.proofs.Rising as rising
 use Rattle.bound.proofs.Rising.{Rising, rising-lo}
 use Rattle.bound.proofs.Keys.{key_set, first_key, key-stays, Joins, joins}
@@ -60,7 +62,8 @@ module _ (s : List ℕ) (n : RecordNumber) where
       record { count = c; end = g; run = subst (λ (x : Entry). Run k c (past l x) g) same r.3; later = le_refl g }
 
   -- an entry that does not agree begins no stretch
-  pub no-stretch : (k : Key) (l : Rest) (e : Entry) (c g : ℕ) → here l ≡ gives e → agrees k e (listPart s l) ≡ false → Run k c l g → l.from ≡ g
+  pub no-stretch : (k : Key) (l : Rest) (e : Entry) (c g : ℕ) → here l ≡ gives e → agrees k e (listPart s l) ≡ false
+      → Run k c l g → l.from ≡ g
   no-stretch k l e zero g q d r = r
   no-stretch k l e (suc c) g q d r =
       let same : r.0 ≡ e = the-given (sym r.1 ∙ q) in
@@ -75,7 +78,8 @@ module _ (s : List ℕ) (n : RecordNumber) where
     abbrev spots : List Rest → List Spot
     spots l = map (λ r. spot at r.from) l
 
-    -- parts up to `end`: what they read is paid by what they take and one entry more, and the entries that give them rise
+    -- parts up to `end`: what they read is paid by what they take and one entry more, and the entries that give them
+    -- rise
     pub record Paid (l : Rest) (reads : ℕ) (gave : List Rest) (end : ℕ) : Type 0 where
       pub paid : reads + Fit l end * (1 + length s / 16) ≤ 1 + Fit l l.from * (1 + length s / 16)
       pub rises : Rising (spot at l.from) (spots gave) (spot at end)
@@ -92,7 +96,8 @@ module _ (s : List ℕ) (n : RecordNumber) where
       paid-last c h = record { paid = pay-last _ c _ _ h step; rises = rising.here at l.from (l.from + e.length) (omega arith) }
 
       -- one that gives a part, before others
-      paid-more : (c r : ℕ) (gave : List Rest) (end : ℕ) → c ≤ length s / 16 → Paid (past l e) r gave end → Paid l (c + 1 + r) (l ∷ gave) end
+      paid-more : (c r : ℕ) (gave : List Rest) (end : ℕ) → c ≤ length s / 16 → Paid (past l e) r gave end
+          → Paid l (c + 1 + r) (l ∷ gave) end
       paid-more c r gave end h t =
           let i = stood s n l e q in
           record {
@@ -142,13 +147,15 @@ module _ (s : List ℕ) (n : RecordNumber) where
     Fine k c (stops a r) = Took k c.list r []
     Fine k c (lists p d r) = Agreed k c d r
 
-    fine : (k : Key) (c : Cursor) (e : Entry) → here c.list ≡ gives e → agrees k e (listPart s c.list) ≡ true → (x : Stepped) → Spent k c e x → Fine k c x
+    fine : (k : Key) (c : Cursor) (e : Entry) → here c.list ≡ gives e → agrees k e (listPart s c.list) ≡ true
+        → (x : Stepped) → Spent k c e x → Fine k c x
     fine k c e q a (stops b r) h = record { count = 1; end = c.list.from + e.length; run = (e, q, a, refl); cost = paid-last c.list e q r h }
     fine k c e q a (lists p d r) h = record { entry = e; stands = q; agreed = a; more = h }
 
     module _ (look : RecordNumber → Option (List ℕ)) (z : Sized s look) (room : ℕ) where
       -- a part's lookup
-      looked-few : (e : Entry) (place : ℕ) (a : Answer (List ℕ)) → lookup_in s n look e.file place ≡ a → (part_looked s n look e place a).reads ≤ length s / 16
+      looked-few : (e : Entry) (place : ℕ) (a : Answer (List ℕ)) → lookup_in s n look e.file place ≡ a
+          → (part_looked s n look e place a).reads ≤ length s / 16
       unfolding part_looked part_found
       looked-few e place ends q = omega arith
       looked-few e place (refuses r) q = omega arith
@@ -159,23 +166,27 @@ module _ (s : List ℕ) (n : RecordNumber) where
       part-few e place = looked-few e place (lookup_in s n look e.file place) refl
 
       module _ (k : Key) where
-        after-spent : (c : Cursor) (e : Entry) (a : Answer Part) (r : ℕ) → r ≤ length s / 16 → Spent k c e (step_after (cursor_past c e k) a r)
+        after-spent : (c : Cursor) (e : Entry) (a : Answer Part) (r : ℕ) → r ≤ length s / 16
+            → Spent k c e (step_after (cursor_past c e k) a r)
         unfolding step_after
         after-spent c e (gives p) r f = record { found = r; reads = refl; few = f; next = refl }
         after-spent c e ends r f = omega arith
         after-spent c e (refuses x) r f = omega arith
 
-        part-spent : (c : Cursor) (e : Entry) (place : ℕ) → Spent k c e (step_part (cursor_past c e k) (part_of s n look e place))
+        part-spent : (c : Cursor) (e : Entry) (place : ℕ)
+            → Spent k c e (step_part (cursor_past c e k) (part_of s n look e place))
         unfolding step_part
         part-spent c e place = after-spent c e (part_of s n look e place).answer (part_of s n look e place).reads (part-few e place)
 
-        joined-spent : (i : ℕ) (c : Cursor) (e : Entry) (place : ℕ) (j : Answer Unit) → Spent k c e (step_joined s n look room i (cursor_past c e k) e place j)
+        joined-spent : (i : ℕ) (c : Cursor) (e : Entry) (place : ℕ) (j : Answer Unit)
+            → Spent k c e (step_joined s n look room i (cursor_past c e k) e place j)
         unfolding step_joined
         joined-spent i c e place (gives u) = both (Spent k c e) (ltb i room) _ _ (part-spent c e place) (omega arith)
         joined-spent i c e place ends = omega arith
         joined-spent i c e place (refuses r) = omega arith
 
-        joined-fine : (i : ℕ) (c : Cursor) (e : Entry) → here c.list ≡ gives e → (is : k.is ≡ true) (place : ℕ) (j : Answer Unit) → Joins k is e (listPart s c.list) j
+        joined-fine : (i : ℕ) (c : Cursor) (e : Entry) → here c.list ≡ gives e
+            → (is : k.is ≡ true) (place : ℕ) (j : Answer Unit) → Joins k is e (listPart s c.list) j
             → Fine k c (step_joined s n look room i (cursor_past c e k) e place j)
         unfolding step_joined
         joined-fine i c e q is place (gives u) a = both (Fine k c) (ltb i room) _ _ (fine k c e q a (step_part (cursor_past c e k) (part_of s n look e place)) (part-spent c e place)) (took-none k c.list 1 (le_refl 1))
@@ -184,13 +195,15 @@ module _ (s : List ℕ) (n : RecordNumber) where
 
         -- behind the first entry the key stays
         module _ (is : k.is ≡ true) where
-          keyed-fine : (i : ℕ) (c : Cursor) (e : Entry) → here c.list ≡ gives e → (key : Key) → key ≡ k → Fine k c (step_keyed s n look room i c e (listPart s c.list) key)
+          keyed-fine : (i : ℕ) (c : Cursor) (e : Entry) → here c.list ≡ gives e → (key : Key) → key ≡ k
+              → Fine k c (step_keyed s n look room i c e (listPart s c.list) key)
           unfolding step_keyed
           keyed-fine i c e q key h =
               subst (λ (x : Key). Fine k c (step_keyed s n look room i c e (listPart s c.list) x)) (sym h)
               (joined-fine i c e q is c.list.from (judge_part k e (listPart s c.list) n c.list.from) (joins k is e (listPart s c.list) n c.list.from))
 
-          entered-fine : (i : ℕ) (c : Cursor) → c.key ≡ k → (a : Answer Entry) → here c.list ≡ a → Fine k c (step_entered s n look room i c (listPart s c.list) a)
+          entered-fine : (i : ℕ) (c : Cursor) → c.key ≡ k → (a : Answer Entry) → here c.list ≡ a
+              → Fine k c (step_entered s n look room i c (listPart s c.list) a)
           unfolding step_entered
           entered-fine i c h (gives e) q =
               keyed-fine i c e q (key_for c.key e (listPart s c.list)) (subst (λ (x : Key). key_for x e (listPart s c.list) ≡ k) (sym h) (key-stays k e (listPart s c.list) is))
@@ -199,10 +212,12 @@ module _ (s : List ℕ) (n : RecordNumber) where
 
           -- what follows a step
           module _ (on : Cursor → Listing) (gave : Cursor → List Rest) (ih : (d : Cursor) → d.key ≡ k → Took k d.list (on d).reads (gave d)) where
-            onward : (c : Cursor) (e : Entry) (d : Cursor) → d ≡ cursor_past c e k → Took k (past c.list e) (on d).reads (gave d)
+            onward : (c : Cursor) (e : Entry) (d : Cursor) → d ≡ cursor_past c e k
+                → Took k (past c.list e) (on d).reads (gave d)
             onward c e d h = subst (λ (x : Cursor). x.key ≡ k → Took k x.list (on d).reads (gave d)) h (ih d) refl
 
-            after-took : (c : Cursor) (x : Stepped) → Fine k c x → Took k c.list (parts_after on x).reads (gave_after s n look room gave c.list x)
+            after-took : (c : Cursor) (x : Stepped) → Fine k c x
+                → Took k c.list (parts_after on x).reads (gave_after s n look room gave c.list x)
             unfolding parts_after gave_after
             after-took c (stops a r) f = f
             after-took c (lists p d r) f =
@@ -217,7 +232,8 @@ module _ (s : List ℕ) (n : RecordNumber) where
                 }
 
             -- the first entry need not agree with its own key
-            after-begun : (c : Cursor) (e : Entry) → here c.list ≡ gives e → (x : Stepped) → Spent k c e x → Begun k c.list e (parts_after on x).reads (gave_after s n look room gave c.list x)
+            after-begun : (c : Cursor) (e : Entry) → here c.list ≡ gives e → (x : Stepped) → Spent k c e x
+                → Begun k c.list e (parts_after on x).reads (gave_after s n look room gave c.list x)
             unfolding parts_after gave_after
             after-begun c e q (stops a r) h = record { count = 0; end = c.list.from + e.length; run = refl; cost = paid-last c.list e q r h }
             after-begun c e q (lists p d r) m =
@@ -230,7 +246,8 @@ module _ (s : List ℕ) (n : RecordNumber) where
                       (paid-more c.list e q m.found (on d).reads (gave d) t.end m.few t.cost);
                 }
 
-          took-run : (f i : ℕ) (c : Cursor) → c.key ≡ k → Took k c.list (parts_run s n look room f i c).reads (gave_run s n look room f i c)
+          took-run : (f i : ℕ) (c : Cursor) → c.key ≡ k
+              → Took k c.list (parts_run s n look room f i c).reads (gave_run s n look room f i c)
           unfolding parts_run gave_run step_in
           took-run zero i c h = took-none k c.list 0 (omega arith)
           took-run (suc f) i c h =
@@ -256,7 +273,8 @@ module _ (s : List ℕ) (n : RecordNumber) where
           (first-spent i l e (here l) q)
 
       -- the parts of an item found by the entry e at the front of l
-      pub begun : (l : Rest) (e : Entry) → l.is ≡ true → here l ≡ gives e → Begun (key_of e (listPart s l)) l e (parts_in s n look room l).reads (gave_in s n look room l)
+      pub begun : (l : Rest) (e : Entry) → l.is ≡ true → here l ≡ gives e
+          → Begun (key_of e (listPart s l)) l e (parts_in s n look room l).reads (gave_in s n look room l)
       unfolding parts_in parts_from gave_in gave_from
       begun l e o q =
           subst₂ (λ (x : Listing) (y : List Rest). Begun (key_of e (listPart s l)) l e x.reads y) (yes l.is _ _ o refl) (yes l.is _ _ o refl) (begun-run (l.to - l.from) 0 l e q)

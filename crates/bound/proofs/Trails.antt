@@ -1,4 +1,5 @@
--- A walk beside its trail: what holds where it stops, and is kept by each turn with what that turn reads, holds of the walk's answer and its trail.
+-- A walk beside its trail: what holds where it stops, and is kept by each turn with what that turn reads, holds of
+-- the walk's answer and its trail.
 use Prim.Native.Nat.{ℕ, zero, suc, ◌<◌}
 use mathlib.Core.Path.{◌≡◌, refl}
 use mathlib.Core.List.{List, [], ◌++◌}
@@ -9,7 +10,8 @@ use Rattle.bound.specs.Trail.{Read, onward, trail_run, trail}
 
 module _ {S A : Type 0} (μ : S → ℕ) (f : S → Turn S A) (d : A) (r : S → List Read) (falls : Falls μ f d) (Q : S → List Read → A → Type 0)
     (halts : (s : S) (a : A) → f s ≡ stop a → Q s (r s ++ []) a) (goes : (s t : S) (l : List Read) (a : A) → f s ≡ go t → Q t l a → Q s (r s ++ l) a) where
-  turned : (n : ℕ) → ((t : S) → μ t < n → Q t (trail_run f r n t) (run f d n t)) → (s : S) (t : Turn S A) → f s ≡ t → μ s < suc n
+  turned : (n : ℕ) → ((t : S) → μ t < n → Q t (trail_run f r n t) (run f d n t)) → (s : S) (t : Turn S A) → f s ≡ t
+      → μ s < suc n
       → Q s (r s ++ onward (trail_run f r n) t) (after (run f d n) t)
   unfolding onward
   turned n ih s (stop a) e h = halts s a e

@@ -1,7 +1,9 @@
--- What a place of the walk is worth: the reads that can still come, in numbers alone. Each read is paid by what the worth falls.
+-- What a place of the walk is worth: the reads that can still come, in numbers alone. Each read is paid by what the
+-- worth falls.
 use Prim.Native.Nat.{ℕ, ◌+◌, ◌*◌, ◌/◌, ◌≤◌}
 use native.Mathlib.Nat.{mul-le-mul_right}
 use native.Mathlib.Omega.{arith}
+use Rattle.bound.specs.Whole.{most}
 
 -- how many attributes, and how many entries, fit in n bytes
 unfoldable pub R : ℕ → ℕ
@@ -22,7 +24,8 @@ pub E-mono : (k n : ℕ) → k ≤ n → E k ≤ E n
 unfolding E
 E-mono k n h = omega arith
 
--- r attributes can be read yet by the raw walk; x entries by the walk, each with a lookup of A attributes and one entry more that ends its item's parts;
+-- r attributes can be read yet by the raw walk; x entries by the walk, each with a lookup of A attributes and one
+-- entry more that ends its item's parts;
 -- y entries by parts, each with a lookup
 unfoldable pub val : ℕ → ℕ → ℕ → ℕ → ℕ
 val A r x y = r + x * (2 + A) + y * (1 + A)
@@ -44,7 +47,8 @@ module _ (A r x y r' x' y' : ℕ) where
   val-entry n hn hr hx hy = omega (arith, mul-le-mul_right (2 + A) hx, mul-le-mul_right (1 + A) hy)
 
   -- an entry with its lookup and the parts of its item, which read c
-  pub val-item : (n c : ℕ) → n ≤ A → r' ≤ r → x' + 1 ≤ x → c + y' * (1 + A) ≤ 1 + y * (1 + A) → n + 1 + c + val A r' x' y' ≤ val A r x y
+  pub val-item : (n c : ℕ) → n ≤ A → r' ≤ r → x' + 1 ≤ x → c + y' * (1 + A) ≤ 1 + y * (1 + A)
+      → n + 1 + c + val A r' x' y' ≤ val A r x y
   unfolding val
   val-item n c hn hr hx hc = omega (arith, mul-le-mul_right (2 + A) hx)
 
@@ -57,20 +61,17 @@ unfolding val
 val-some A r x y n h k = omega (arith, mul-le-mul_right (2 + A) k)
 
 -- an entry of the parts and its lookup, before others
-pub pay-part : (A n c x y z : ℕ) → n ≤ A → x + 1 ≤ y → c + z * (1 + A) ≤ 1 + x * (1 + A) → n + 1 + c + z * (1 + A) ≤ 1 + y * (1 + A)
+pub pay-part : (A n c x y z : ℕ) → n ≤ A → x + 1 ≤ y → c + z * (1 + A) ≤ 1 + x * (1 + A)
+    → n + 1 + c + z * (1 + A) ≤ 1 + y * (1 + A)
 pay-part A n c x y z hn hx hc = omega (arith, mul-le-mul_right (1 + A) hx)
 
 -- and the last of them
 pub pay-last : (A c x y : ℕ) → c ≤ A + 1 → x + 1 ≤ y → c + x * (1 + A) ≤ 1 + y * (1 + A)
 pay-last A c x y hc hx = omega (arith, mul-le-mul_right (1 + A) hx)
 
--- "a + 3e + 2ea" for m bytes
-unfoldable pub most : ℕ → ℕ
-most m = m / 16 + 3 * (m / 26) + 2 * (m / 26 * (m / 16))
-
 -- with no more than m bytes left it is worth no more
 pub val-fresh : (m p q g : ℕ) → p ≤ m → q ≤ m → g ≤ m → val (m / 16) (R p) (E q) (E g) ≤ most m
-unfolding val most
+unfolding val
 val-fresh m p q g hp hq hg =
     let hr : R p ≤ m / 16 = unfold R in omega arith in
     let hx : E q ≤ m / 26 = unfold E in omega arith in

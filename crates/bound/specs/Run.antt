@@ -1,5 +1,7 @@
--- A whole listing, from a fresh walk to its end or its first refusal, each item's parts asked for once: what it reads, and which entries give its parts.
-use Rattle.std.specs.Prelude.{ℕ, zero, suc, ◌+◌, ◌-◌, List, [], ◌∷◌, map, Option}
+-- A whole listing, from a fresh walk to its end or its first refusal, each item's parts asked for once: what it
+-- reads, and which entries give its parts.
+use Rattle.std.specs.Prelude.{ℕ, zero, suc, ◌+◌, ◌-◌, List, [], ◌∷◌, map}
+use Rattle.std.proofs.Math.Option.{Option}
 use Rattle.fields.specs.Pick.{pick}
 use Rattle.fields.specs.Answer.{Answer, gives, ends, refuses}
 use Rattle.fields.specs.declared.RecordNumber.{RecordNumber}
@@ -12,8 +14,8 @@ use Rattle.turns.specs.declared.Rest.{Rest}
 use Rattle.parts.specs.Parts.{Stepped, lists, stops, cursor, step_in, parts_in}
 use Rattle.parts.specs.declared.Cursor.{Cursor}
 
--- an entry, told by its list and its place there. An attribute opens one list at most, so a list is told by where its attribute ends:
--- there the raw walk stands while the list is open, and while it stands there no other is (proofs/Lists.antt)
+-- an entry, told by its list and its place there. An attribute opens one list at most, so a list is told by where its
+-- attribute ends: there the raw walk stands while the list is open, and while it stands there no other is (Lists.antt)
 pub record Spot : Type 0 where
   pub list : ℕ
   pub place : ℕ

@@ -1,5 +1,6 @@
 -- A front of a list that was filled, put back: the whole list is filled, its tail unchanged.
-use Rattle.std.proofs.Common.{◌≡◌, ℕ, ◌+◌, ◌≤◌, min, List, ◌++◌, length, take, drop, sym, ap, ◌∙◌, arith, append_assoc, length-append, length-drop, length-take, take-append-drop}
+use Rattle.std.proofs.Common.{◌≡◌, ℕ, ◌≤◌, min, List, ◌++◌, length, take, drop, sym, ap, ◌∙◌, arith}
+use Rattle.std.proofs.Common.{append_assoc, length-append, length-drop, length-take, take-append-drop}
 use Rattle.std.proofs.Math.Seq.{drop-append-le}
 use Rattle.parts.specs.Parts.{Listing, filled, blank_parts, Collects}
 use Rattle.parts.proofs.Fills.{blank_size}
@@ -31,7 +32,8 @@ fronted {l} xs zs k h f = record {
 }
 
 -- the front of a blank array filled, with room for as many parts as it has records
-pub collected : (f : ℕ → Listing) (room k : ℕ) (xs zs : List Part) (r : Filled) → k ≡ min room 157 → xs ≡ blank_parts
+pub collected : (f : ℕ → Listing) (room k : ℕ) (xs zs : List Part) (r : Filled)
+    → k ≡ min room 157 → xs ≡ blank_parts
     → length zs ≡ length (take k xs) → Fills (f (length (take k xs))) (take k xs) zs r
     → Collects (f (min room 157)) blank_parts (record { parts = zs ++ drop k xs; count = r.count; answer = r.answer; reads = r.reads })
 collected f room k xs zs r e b z h =

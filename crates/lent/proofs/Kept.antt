@@ -1,24 +1,21 @@
--- With no part written, and where a step stops the filling: what is reported, and what stands in the list.
-use Rattle.std.proofs.Common.{◌≡◌, ℕ, ◌+◌, List, [], length, take, sym, ap, ◌∙◌, refl, arith}
-use Rattle.std.specs.Prelude.{Option}
+-- Where a step stops the filling: what is reported, and what stands in the list.
+use Rattle.std.proofs.Common.{◌≡◌, ℕ, ◌+◌, List, length, sym, ap, ◌∙◌, arith}
+use Rattle.std.proofs.Math.Option.{Option}
 use Rattle.std.proofs.Math.Seq.{length-take-le}
-use Rattle.fields.specs.Answer.{Answer}
 use Rattle.fields.specs.declared.RecordNumber.{RecordNumber}
 use Rattle.turns.specs.declared.Rest.{Rest}
-use Rattle.parts.specs.Parts.{told_ended, stops, Listing, listing, step_in, parts_from, filled}
+use Rattle.parts.specs.Parts.{told_ended, stops, Listing, step_in, parts_from, filled}
 use Rattle.part.specs.declared.Part.{Part}
 use Rattle.parts.specs.declared.Cursor.{Cursor}
 use Rattle.parts.specs.declared.Ended.{Ended}
 use Rattle.parts.proofs.Fills.{Filling, stopped, filled_so}
-use Rattle.lent.specs.Lent.{Fills, Empty}
+use Rattle.lent.specs.Lent.{Fills}
 use Rattle.lent.specs.declared.Filled.{Filled}
 
-pub unwritten : (a : Answer Unit) (l : Listing) (before : List Part) (r : Filled) → listing [] a 0 ≡ l → Empty a r → Fills l before before r
-unfolding filled
-unwritten a l before r e x = rw (← e) (record { list = refl; count = x.count; answer = x.answer; reads = x.reads })
-
-module _ (s : List ℕ) (n : RecordNumber) (look : RecordNumber → Option (List ℕ)) (room : ℕ) (l : Rest) (before parts : List Part) (count reads : ℕ) (c : Cursor) where
-  pub written : Filling s n look room l before parts count reads c → (a : Ended) (k : ℕ) → step_in s n look room count c ≡ stops (told_ended a) k
+module _ (s : List ℕ) (n : RecordNumber) (look : RecordNumber → Option (List ℕ)) (room : ℕ)
+    (l : Rest) (before parts : List Part) (count reads : ℕ) (c : Cursor) where
+  pub written : Filling s n look room l before parts count reads c
+      → (a : Ended) (k : ℕ) → step_in s n look room count c ≡ stops (told_ended a) k
       → Fills (parts_from s n look room l) before parts (record { count = count; answer = a; reads = reads + k })
   written h a k e =
       let p = sym (stopped s n look room l before parts count reads c h (told_ended a) k e) in

@@ -2,21 +2,13 @@
 use mathlib.Core.Path.{◌≡◌, refl, sym, ap, ◌∙◌}
 use mathlib.Core.List.{List}
 use Prim.Native.Nat.{ℕ}
-use Rattle.fields.specs.Answer.{Answer}
-use Rattle.fields.proofs.Settled.{read_back, settled, nothing}
+use Rattle.fields.proofs.Settled.{settled}
 use Rattle.parts.specs.Parts.{told_ended, Listing}
 use Rattle.part.specs.declared.Part.{Part}
 use Rattle.parts.specs.declared.Ended.{Ended}
-use Rattle.parts.specs.declared.Ended.TheVariants as ended
+use Rattle.parts.proofs.Settled.{ended_back, ended-read}
 use Rattle.lent.specs.Lent.{Fills}
 use Rattle.lent.specs.declared.Filled.{Filled}
-
-abbrev ended_back : Answer Unit → Ended
-ended_back = read_back (λ _. ended.Whole) (ended.Refused nothing) ended.Refused
-
-ended-read : (e : Ended) → ended_back (told_ended e) ≡ e
-ended-read ended.Whole = refl
-ended-read (ended.Refused r) = refl
 
 made : ℕ → Ended → ℕ → Filled
 made n e k = record { count = n; answer = e; reads = k }

@@ -1,6 +1,6 @@
 -- 01, "Parts": "Parts go, in list order, to a lent list of part records, filled from the front;
 -- records past the reported number are unchanged."
-use Rattle.std.specs.Prelude.{ℕ, ◌≡◌, List, length}
+use Rattle.std.specs.Prelude.{◌≡◌, List, length}
 use Rattle.fields.specs.Answer.{Answer}
 use Rattle.parts.specs.Parts.{told_ended, Listing, filled}
 use Rattle.part.specs.declared.Part.{Part}

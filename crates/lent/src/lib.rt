@@ -74,7 +74,7 @@ fn fill<'a, 'b>(
 
 // The parts of an item, from its list on, written one by one to the front of a lent list: 21, 1, 2 and 22 first.
 // There is room for as many as the list has records; 20 where that is not enough.
-#[tactic(auto, using(parts::proofs::Stages::ready, parts::proofs::Stages::ordered, parts::proofs::Stages::within), unfolding(parts::specs::Parts::parts_of, parts::specs::Parts::parts_opened, parts::specs::Parts::parts_in, parts::specs::Parts::filled))]
+#[tactic(auto, using(parts::proofs::Opens::ready, parts::proofs::Opens::ordered, parts::proofs::Opens::within), unfolding(parts::specs::Parts::parts_of, parts::specs::Parts::parts_opened, parts::specs::Parts::parts_in, parts::specs::Parts::filled))]
 pub fn list<'a, 'b>(
     base: &'a [u8],
     number: RecordNumber,

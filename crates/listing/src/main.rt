@@ -2,83 +2,70 @@
 // One byte more than a table may have is read, so that a longer input is seen to be one.
 #![tactic(auto)]
 
-ghost use Rattle.std.specs.Prelude.{◌≡◌, ◌≤◌, length};
+ghost use Rattle.std.specs.Prelude.{◌≡◌, ◌≤◌, length, IfOk, vec_len};
 
-use libc::{STDERR_FILENO, STDIN_FILENO, STDOUT_FILENO};
+use std::alloc::{AllocError, Global};
+use std::io;
+use std::io::{Read, Write};
 
 // Room for a table and one byte more.
-fn table_room() -> [u8; 65537]
-    ensures { 65537 ≡ length result }
+fn table_room(alloc: Global) -> Result<Vec<u8>, AllocError>
+    ensures { IfOk result (λ v. vec_len v ≡ 65537) }
 {
-    [0; 65537]
+    vec![in alloc; 0; 65537]
 }
 
-// How many bytes stand in front of the buffer, and whether every read went well.
-#[derive(Clone, Copy)]
-struct Input {
-    bytes: usize,
-    whole: bool,
-}
-
-// Reads until the input ends or the buffer is full. A read that fails is told from the end of the input: a worn disk fails.
-fn read_input(space: &mut [u8]) -> Input
-    ensures { result.bytes ≤ length space.new }
+// Reads until the input ends or the buffer is full, and answers how many bytes then stand in front of it.
+fn fill_room(input: &mut impl Read, space: &mut [u8]) -> io::Result<usize>
+    ensures { IfOk result (λ n. n ≤ length space.new) }
 {
-    let mut bytes: usize = 0;
-    loop {
-        if bytes == space.len() {
-            return Input { bytes, whole: true };
-        }
-        let part: &mut [u8] = &mut space[bytes..];
-        let got = libc::read(STDIN_FILENO, part);
-        if got < 0 {
-            return Input {
-                bytes,
-                whole: false,
-            };
-        }
-        let n = io::count(got, part);
+    let mut bytes = 0;
+    while bytes < space.len() {
+        let n = input.read(&mut space[bytes..])?;
         if n == 0 {
-            return Input { bytes, whole: true };
+            break;
         }
         bytes += n;
     }
+    Ok(bytes)
+}
+
+// The input, or as much of it as there is room for. A read that fails is told from the end of the input: a worn disk fails.
+fn read_input(alloc: Global, input: &mut impl Read) -> io::Result<Vec<u8>>
+    ensures { IfOk result (λ v. vec_len v ≤ 65537) }
+{
+    let mut table = table_room(alloc)?;
+    let bytes = fill_room(input, &mut table)?;
+    table.truncate(bytes);
+    Ok(table)
 }
 
 // Page after page, until the listing is told or a write fails.
-fn write_listing(t: &[u8]) {
+fn write_listing(out: &mut impl Write, t: &[u8]) -> io::Result<()> {
     let mut numbers = [0u64; 785];
-    let mut out = io::large_buffer();
-    let mut m = lines::start();
+    let mut page = [0u8; 8192];
+    let mut listing = lines::start();
     loop {
-        let r = lines::inner::fill(t, m, &mut numbers, &mut out);
-        let end = r.end;
-        if !io::write_all(STDOUT_FILENO, &out[..end]) {
-            return;
+        let told = lines::inner::fill(t, listing, &mut numbers, &mut page);
+        out.write_all(&page[..told.end])?;
+        if !told.more {
+            return Ok(());
         }
-        if r.more {
-            m = r.next;
-        } else {
-            return;
-        }
+        listing = told.next;
     }
 }
 
 // What was read is listed, unless a read failed.
-fn list_input(space: &mut [u8]) {
-    let got = read_input(space);
-    let bytes = got.bytes;
-    if got.whole {
-        write_listing(&space[..bytes]);
-    } else {
-        io::write_all(
-            STDERR_FILENO,
-            b"listing: standard input could not be read to its end; nothing is listed\n",
-        );
+fn list_input<R: Input + Print + Eprint + AllocGlobal>(rt: &R) -> io::Result<()> {
+    match read_input(rt.alloc(), &mut rt.reader()) {
+        Ok(table) => write_listing(&mut io::writer(rt), &table),
+        Err(_) => rt.eprintln(
+            "listing: standard input could not be read to its end; nothing is listed",
+        ),
     }
 }
 
-fn main() {
-    let mut room = table_room();
-    list_input(&mut room);
+// How the listing ended shows in its last line: a write that failed leaves it without one.
+fn main(rt: HostRuntime) {
+    let _ = list_input(&rt);
 }

@@ -1,2 +1,2 @@
 -- What a search finds lies inside the record that it searched.
-pub mod Stages
+pub mod Finds

@@ -87,7 +87,7 @@ fn part_in(t: &[u8], e: Entry, h: Attribute) -> PartRead
 }
 
 // The search in a record that was looked up, and the part where it finds the attribute.
-#[tactic(auto, using(crate::proofs::Stages::found_inside, turns::proofs::Turns::few), unfolding(crate::specs::Part::part_found))]
+#[tactic(auto, using(crate::proofs::Finds::found_inside, turns::proofs::Turns::few), unfolding(crate::specs::Part::part_found))]
 fn part_found(t: &[u8], number: RecordNumber, e: Entry, place: usize) -> PartFound
     requires { length t.now ≤ 4096 }
     ensures result_value { told_part result ≡ part_found t.now e (find_of t.now e.file e.ty e.instance (refusal 18 number place)) }

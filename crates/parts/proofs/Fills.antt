@@ -19,7 +19,9 @@ use Rattle.turns.specs.State.{no_key, part_of as listPart}
 use Rattle.turns.specs.declared.Rest.{Rest}
 use Rattle.turns.proofs.Turns.{entry-inside}
 use Rattle.part.specs.Join.{key_for}
-use Rattle.parts.specs.Parts.{Stepped, lists, stops, told_kind, told_turn, cursor, cursor_past, step_after, step_part, step_joined, step_keyed, step_entered, step_in, Listing, listing, parts_after, parts_run, parts_from, filled, told_ended, no_part, blank_parts, Collects}
+use Rattle.parts.specs.Parts.{Stepped, lists, stops, told_ended, told_kind, told_turn, cursor, cursor_past}
+use Rattle.parts.specs.Parts.{step_after, step_part, step_joined, step_keyed, step_entered, step_in}
+use Rattle.parts.specs.Parts.{Listing, listing, parts_after, parts_run, parts_from, filled, no_part, blank_parts, Collects}
 use Rattle.part.specs.declared.Part.{Part}
 use Rattle.parts.specs.declared.Cursor.{Cursor}
 use Rattle.parts.specs.declared.Ended.{Ended}
@@ -81,7 +83,8 @@ module _ (s : List ℕ) (n : RecordNumber) (look : RecordNumber → Option (List
   unfolding step_in
   goes k c d p r g = entered-goes k c d p r (entry_of (listPart s c.list) n c.list.from) refl g
 
-  pub goes_on : (k : ℕ) (c : Cursor) (m : PartTurn) (p : Part) → told_turn m ≡ step_in s n look room k c → m.kind ≡ kind.Lists p → Goes k c m.next
+  pub goes_on : (k : ℕ) (c : Cursor) (m : PartTurn) (p : Part) → told_turn m ≡ step_in s n look room k c → m.kind ≡ kind.Lists p
+      → Goes k c m.next
   goes_on k c m p e i = goes k c m.next p m.reads (sym e ∙ made m i)
 
   -- more steps change nothing

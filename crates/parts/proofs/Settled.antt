@@ -10,10 +10,10 @@ use Rattle.parts.specs.declared.Ended.{Ended}
 use Rattle.parts.specs.declared.Ended.TheVariants as ended
 use Rattle.parts.specs.declared.Collected.{Collected}
 
-abbrev ended_back : Answer Unit → Ended
+abbrev pub ended_back : Answer Unit → Ended
 ended_back = read_back (λ _. ended.Whole) (ended.Refused nothing) ended.Refused
 
-ended-read : (e : Ended) → ended_back (told_ended e) ≡ e
+pub ended-read : (e : Ended) → ended_back (told_ended e) ≡ e
 ended-read ended.Whole = refl
 ended-read (ended.Refused r) = refl
 

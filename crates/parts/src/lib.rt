@@ -63,7 +63,7 @@ fn none(answer: Ended) -> Collected
 }
 
 // The parts of an item, from its list on: 21, 1, 2 and 22 first. An item without a list has none. Room for 157 is room for every list of a record.
-#[tactic(auto, using(crate::proofs::Stages::ready, crate::proofs::Stages::ordered, crate::proofs::Stages::within), unfolding(crate::specs::Parts::parts_of, crate::specs::Parts::parts_opened, crate::specs::Parts::parts_in))]
+#[tactic(auto, using(crate::proofs::Opens::ready, crate::proofs::Opens::ordered, crate::proofs::Opens::within), unfolding(crate::specs::Parts::parts_of, crate::specs::Parts::parts_opened, crate::specs::Parts::parts_in))]
 pub fn collect<'a>(base: &'a [u8], number: RecordNumber, t: &'a [u8], l: Rest) -> Collected
     ensures { Collects (parts_of base.now number t.now 157 l) blank_parts result }
 {

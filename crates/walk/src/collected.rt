@@ -2,79 +2,69 @@
 use fields::RecordNumber;
 use part::Part;
 use parts::{Collected, Ended};
+use std::io;
+use std::io::Write;
 use turns::Rest;
 use words::{Question, say, tell, tell_one, tell_refused};
 
-fn put_part(p: Part) {
-    let file = p.file;
-    let lowest = p.lowest;
-    let runs = p.runs;
-    let listed = p.listed;
-    tell(
-        b"part",
-        [
-            file.0,
-            p.offset as u64,
-            lowest.0,
-            runs.from as u64,
-            runs.bytes as u64,
-            p.size,
-            listed.0,
-            0,
-        ],
-        7,
-        b' ',
-    )
+fn put_part(out: &mut impl Write, p: &Part) -> io::Result<()> {
+    let numbers = [
+        p.file.0,
+        p.offset as u64,
+        p.lowest.0,
+        p.runs.from as u64,
+        p.runs.bytes as u64,
+        p.size,
+        p.listed.0,
+    ];
+    tell(out, "part", &numbers, b' ')
 }
 
 // Whether a part is as an array of parts has it before it is filled.
-fn is_blank(p: Part) -> bool {
-    let file = p.file;
-    let lowest = p.lowest;
-    let runs = p.runs;
-    let listed = p.listed;
-    let places = p.offset as u64 | runs.from as u64 | runs.bytes as u64;
-    file.0 | lowest.0 | listed.0 | p.size | places == 0
+fn is_blank(p: &Part) -> bool {
+    let places = p.offset | p.runs.from | p.runs.bytes;
+    p.file.0 | p.lowest.0 | p.listed.0 | p.size | places as u64 == 0
 }
 
 // Each part, and where the first record behind them stands that is not blank: 157 where all are.
-fn put_parts(parts: [Part; 157], count: usize) -> usize {
-    let mut i: usize = 0;
-    while i < 157 {
-        let p = parts[i];
+fn put_parts(out: &mut impl Write, parts: &[Part], count: usize) -> io::Result<usize> {
+    for (i, p) in parts.iter().enumerate() {
         if i < count {
-            put_part(p);
+            put_part(out, p)?;
         } else if !is_blank(p) {
-            return i;
+            return Ok(i);
         }
-        i += 1;
     }
-    i
+    Ok(parts.len())
 }
 
-fn put_ended(a: Ended) {
+fn put_ended(out: &mut impl Write, a: Ended) -> io::Result<()> {
     match a {
-        Ended::Whole => say(b"whole", b' '),
-        Ended::Refused(r) => tell_refused(r, b' '),
+        Ended::Whole => say(out, "whole", b' '),
+        Ended::Refused(r) => tell_refused(out, r, b' '),
     }
 }
 
 // The line of one call of the parts: how many there are, how they end, what was read, each of them, and up to where the records past them are unchanged.
-fn put_collected(c: Collected) {
-    let parts = c.parts;
-    let a = c.answer;
-    tell_one(b"parts", c.count as u64, b' ');
-    put_ended(a);
-    tell_one(b"reads", c.reads, b' ');
-    let unchanged = put_parts(parts, c.count);
-    tell_one(b"unchanged", unchanged as u64, b'\n')
+fn put_collected(out: &mut impl Write, c: &Collected) -> io::Result<()> {
+    tell_one(out, "parts", c.count as u64, b' ')?;
+    put_ended(out, c.answer)?;
+    tell_one(out, "reads", c.reads, b' ')?;
+    let unchanged = put_parts(out, &c.parts, c.count)?;
+    tell_one(out, "unchanged", unchanged as u64, b'\n')
 }
 
-pub fn tell_parts<'a>(base: &'a [u8], number: u64, t: &'a [u8], l: Rest) {
-    put_collected(parts::collect(base, RecordNumber(number), t, l))
+pub fn tell_parts<'a>(
+    out: &mut impl Write,
+    base: &'a [u8],
+    number: RecordNumber,
+    t: &'a [u8],
+    l: Rest,
+) -> io::Result<()> {
+    put_collected(out, &parts::collect(base, number, t, l))
 }
 
-fn list_of(q: Question) -> Rest {
+pub fn list_of(q: &Question<'_>) -> Rest {
     Rest {
         is: q.listed,
         from: q.from,
@@ -82,12 +72,13 @@ fn list_of(q: Question) -> Rest {
     }
 }
 
-pub fn tell_listed<'a>(base: &'a [u8], t: &'a [u8], q: Question) {
-    tell_parts(base, q.number, t, list_of(q))
+pub fn tell_listed(out: &mut impl Write, q: &Question<'_>) -> io::Result<()> {
+    tell_parts(out, q.record, RecordNumber(q.number), q.table, list_of(q))
 }
 
-pub fn tell_within<'a>(base: &'a [u8], t: &'a [u8], q: Question) {
+pub fn tell_within(out: &mut impl Write, q: &Question<'_>) -> io::Result<()> {
     let number = RecordNumber(q.number);
     let room = q.most as usize;
-    put_collected(lent::list_within(base, number, t, list_of(q), room))
+    let c = lent::list_within(q.record, number, q.table, list_of(q), room);
+    put_collected(out, &c)
 }

@@ -5,40 +5,29 @@
 mod collected;
 mod walked;
 
-use words::{Question, part};
+use fields::RecordNumber;
+use std::io;
+use std::io::Write;
+use words::Question;
 
 // One call or one walk for each kind of question. A kind that there is not has no answer.
-fn tell_answer<'a>(base: &'a [u8], t: &'a [u8], q: Question) {
-    let kind = q.kind;
-    let number = q.number;
-    let most = q.most;
-    match kind {
-        0 => walked::tell_fresh(base),
-        1 => walked::tell_next(base, t, q),
-        2 => walked::tell_walk(base, number, t, most, false),
-        3 => walked::tell_first(base, number, t, q.ty),
-        4 => collected::tell_listed(base, t, q),
-        5 => collected::tell_within(base, t, q),
-        6 => walked::tell_walk(base, number, t, most, true),
-        _ => {}
+fn tell_answer(out: &mut impl Write, q: &Question<'_>) -> io::Result<()> {
+    let base = q.record;
+    let t = q.table;
+    let number = RecordNumber(q.number);
+    match q.kind {
+        0 => walked::tell_fresh(out, base),
+        1 => walked::tell_next(out, q),
+        2 => walked::tell_walk(out, base, number, t, q.most, false),
+        3 => walked::tell_first(out, base, number, t, q.ty),
+        4 => collected::tell_listed(out, q),
+        5 => collected::tell_within(out, q),
+        6 => walked::tell_walk(out, base, number, t, q.most, true),
+        _ => Ok(()),
     }
 }
 
-// Answers one question, and says whether to go on.
-fn turn(space: &mut [u8]) -> bool {
-    let q = words::read_question(space);
-    if q.whole {
-        tell_answer(part(space, 0, q.record), part(space, q.record, q.bytes), q);
-    }
-    q.whole
-}
-
-// A proved loop has to end, and nothing says that the input does. So the loop counts its turns down, from a number that no run uses up.
-fn main() {
-    let mut room = words::room();
-    let space: &mut [u8] = &mut room;
-    let mut turns = u64::MAX;
-    while turns > 0 && turn(space) {
-        turns -= 1;
-    }
+// Whether all could be written is not asked: what is missing is missed by the test.
+fn main(rt: HostRuntime) {
+    let _ = words::answer_all(&rt, |q, out| tell_answer(out, q));
 }

@@ -1,74 +1,58 @@
 // The calls of the item walk, and their answers as lines of words and decimal numbers.
-use crate::collected::tell_parts;
+use crate::collected::{list_of, tell_parts};
 use fields::RecordNumber;
 use items::FirstItem;
-use turns::{Item, ItemStep, Key, Rest, State};
+use std::io;
+use std::io::Write;
+use turns::{Item, ItemStep, Key, State};
 use words::{Question, say, tell, tell_one, tell_refused};
 
-fn put_item(i: Item) {
-    let file = i.file;
+fn put_item(out: &mut impl Write, i: Item) -> io::Result<()> {
     let h = i.attribute;
-    tell(
-        b"item",
-        [
-            file.0,
-            h.offset as u64,
-            h.ty as u64,
-            h.length as u64,
-            h.resident as u64,
-            h.instance as u64,
-            0,
-            0,
-        ],
-        6,
-        b' ',
-    );
+    let item = [
+        i.file.0,
+        h.offset as u64,
+        h.ty as u64,
+        h.length as u64,
+        h.resident as u64,
+        h.instance as u64,
+    ];
+    tell(out, "item", &item, b' ')?;
     let l = i.rest;
-    let from = l.from as u64;
-    let to = l.to as u64;
-    tell(b"rest", [l.is as u64, from, to, 0, 0, 0, 0, 0], 3, b' ')
+    let rest = [l.is as u64, l.from as u64, l.to as u64];
+    tell(out, "rest", &rest, b' ')
 }
 
-fn put_step(a: ItemStep) {
+fn put_step(out: &mut impl Write, a: ItemStep) -> io::Result<()> {
     match a {
-        ItemStep::Given(i) => put_item(i),
-        ItemStep::End => say(b"end", b' '),
-        ItemStep::Refused(r) => tell_refused(r, b' '),
+        ItemStep::Given(i) => put_item(out, i),
+        ItemStep::End => say(out, "end", b' '),
+        ItemStep::Refused(r) => tell_refused(out, r, b' '),
     }
 }
 
 // A state: the raw place, the open list, the skip key.
-fn put_state(w: State, last: u8) {
+fn put_state(out: &mut impl Write, w: State, last: u8) -> io::Result<()> {
     let list = w.list;
     let key = w.key;
-    tell(
-        b"left",
-        [
-            w.raw as u64,
-            list.is as u64,
-            list.from as u64,
-            list.to as u64,
-            key.is as u64,
-            key.ty as u64,
-            key.instance as u64,
-            0,
-        ],
-        7,
-        last,
-    )
+    let numbers = [
+        w.raw as u64,
+        list.is as u64,
+        list.from as u64,
+        list.to as u64,
+        key.is as u64,
+        key.ty as u64,
+        key.instance as u64,
+    ];
+    tell(out, "left", &numbers, last)
 }
 
-pub fn tell_fresh(base: &[u8]) {
-    say(b"fresh", b' ');
-    put_state(items::fresh(base), b'\n')
+pub fn tell_fresh(out: &mut impl Write, base: &[u8]) -> io::Result<()> {
+    say(out, "fresh", b' ')?;
+    put_state(out, items::fresh(base), b'\n')
 }
 
-fn state_of(q: Question) -> State {
-    let list = Rest {
-        is: q.listed,
-        from: q.from,
-        to: q.to,
-    };
+fn state_of(q: &Question<'_>) -> State {
     let key = Key {
         is: q.keyed,
         ty: q.ty,
@@ -76,59 +60,82 @@ fn state_of(q: Question) -> State {
     };
     State {
         raw: q.place,
-        list,
+        list: list_of(q),
         key,
     }
 }
 
 // One call of the walk as a line, and the state that it leaves. Where parts are asked for, those of an item follow as a line of their own.
-fn tell_call<'a>(base: &'a [u8], number: u64, t: &'a [u8], at: State, parts: bool) -> State {
-    let n = items::next(base, RecordNumber(number), t, at);
-    let a = n.answer;
-    let left = n.left;
-    put_step(a);
-    put_state(left, b' ');
-    tell_one(b"reads", n.reads, b'\n');
-    tell_given(base, number, t, a, parts);
-    left
-}
-
-pub fn tell_next<'a>(base: &'a [u8], t: &'a [u8], q: Question) {
-    tell_call(base, q.number, t, state_of(q), false);
-}
-
-// The parts of an item, where the answer is one and they are asked for.
-fn tell_given<'a>(base: &'a [u8], number: u64, t: &'a [u8], a: ItemStep, parts: bool) {
-    if !parts {
-        return;
+fn tell_call<'a>(
+    out: &mut impl Write,
+    base: &'a [u8],
+    number: RecordNumber,
+    t: &'a [u8],
+    at: State,
+    parts: bool,
+) -> io::Result<State> {
+    let n = items::next(base, number, t, at);
+    put_step(out, n.answer)?;
+    put_state(out, n.left, b' ')?;
+    tell_one(out, "reads", n.reads, b'\n')?;
+    if parts {
+        tell_given(out, base, number, t, n.answer)?;
     }
+    Ok(n.left)
+}
+
+pub fn tell_next(out: &mut impl Write, q: &Question<'_>) -> io::Result<()> {
+    let number = RecordNumber(q.number);
+    tell_call(out, q.record, number, q.table, state_of(q), false)?;
+    Ok(())
+}
+
+// The parts of an item, where the answer is one.
+fn tell_given<'a>(
+    out: &mut impl Write,
+    base: &'a [u8],
+    number: RecordNumber,
+    t: &'a [u8],
+    a: ItemStep,
+) -> io::Result<()> {
     match a {
-        ItemStep::Given(i) => tell_parts(base, number, t, i.rest),
-        _ => {}
+        ItemStep::Given(i) => tell_parts(out, base, number, t, i.rest),
+        _ => Ok(()),
     }
 }
 
 // So many calls from fresh on, each from the state that the one before left.
-pub fn tell_walk<'a>(base: &'a [u8], number: u64, t: &'a [u8], most: u16, parts: bool) {
+pub fn tell_walk<'a>(
+    out: &mut impl Write,
+    base: &'a [u8],
+    number: RecordNumber,
+    t: &'a [u8],
+    most: u16,
+    parts: bool,
+) -> io::Result<()> {
     let mut at = items::fresh(base);
-    let mut turns = most;
-    while turns > 0 {
-        at = tell_call(base, number, t, at, parts);
-        turns -= 1;
+    for _ in 0..most {
+        at = tell_call(out, base, number, t, at, parts)?;
     }
+    Ok(())
 }
 
-fn put_first(a: FirstItem) {
+fn put_first(out: &mut impl Write, a: FirstItem) -> io::Result<()> {
     match a {
-        FirstItem::Given(i) => put_item(i),
-        FirstItem::Refused(r) => tell_refused(r, b' '),
+        FirstItem::Given(i) => put_item(out, i),
+        FirstItem::Refused(r) => tell_refused(out, r, b' '),
     }
 }
 
 // The line of the first of a type, which leaves no state.
-pub fn tell_first<'a>(base: &'a [u8], number: u64, t: &'a [u8], ty: u32) {
-    let f = items::first_of(base, RecordNumber(number), t, ty);
-    let a = f.answer;
-    put_first(a);
-    tell_one(b"reads", f.reads, b'\n')
+pub fn tell_first<'a>(
+    out: &mut impl Write,
+    base: &'a [u8],
+    number: RecordNumber,
+    t: &'a [u8],
+    ty: u32,
+) -> io::Result<()> {
+    let f = items::first_of(base, number, t, ty);
+    put_first(out, f.answer)?;
+    tell_one(out, "reads", f.reads, b'\n')
 }

@@ -1,20 +1,18 @@
-// What the programs that the tests ask share: how a question is read from standard input, and how an answer is written to standard output, a piece of a line at a time.
-// A question is a head of 59 bytes, all numbers little-endian, as `read_head` has them, then as many bytes of a record (or of the rest of a list) and of a table as the head says.
+// What the programs that the tests ask share: how questions are read from standard input, and how answers are written to standard output, a piece of a line at a time.
+// A question is a head of 59 bytes, all numbers little-endian, as `read_question` has them, then as many bytes of a record (or of the rest of a list) and of a table as the head says.
 // A program ends where the questions end, and at a question that is cut or whose bytes have no room.
 #![tactic(auto)]
 
-ghost use Rattle.std.specs.Prelude.{◌≤◌, length};
-
 use fields::Refusal;
 use fields::inner::{u16_at, u32_at, u64_at};
-use libc::{STDIN_FILENO, STDOUT_FILENO};
-use text::inner::{put_byte, put_words};
+use std::alloc::{AllocError, Global};
+use std::io;
+use std::io::{BufReader, BufWriter, ErrorKind, Printer, Read, Write};
 
 // A question, for every call that there is: each reads what it needs. `from` and `to` are those of a list, where `listed` says that there is one, and the type and instance
-// are also those of a key, where `keyed` says so. `most` is how many calls a walk makes, or the room for parts. `whole` says that all of the question came: of its bytes the record is first.
+// are also those of a key, where `keyed` says so. `most` is how many calls a walk makes, or the room for parts.
 #[derive(Clone, Copy)]
-pub struct Question {
-    pub whole: bool,
+pub struct Question<'a> {
     pub kind: u8,
     pub number: u64,
     pub place: usize,
@@ -26,16 +24,12 @@ pub struct Question {
     pub ty: u32,
     pub instance: u16,
     pub most: u16,
-    pub record: usize,
-    pub bytes: usize,
+    pub record: &'a [u8],
+    pub table: &'a [u8],
 }
 
-fn read_head(head: &[u8]) -> Question
-    requires { 59 ≤ length head.now }
-{
-    let record = u32_at(head, 51) as usize;
+fn read_head<'a>(head: &[u8; 59], record: &'a [u8], table: &'a [u8]) -> Question<'a> {
     Question {
-        whole: true,
         kind: head[0],
         number: u64_at(head, 1),
         place: u64_at(head, 9) as usize,
@@ -48,83 +42,86 @@ fn read_head(head: &[u8]) -> Question
         instance: u16_at(head, 47),
         most: u16_at(head, 49),
         record,
-        bytes: record + u32_at(head, 55) as usize,
+        table,
     }
-}
-
-// Puts what comes next on standard input at the front of the buffer, and answers whether all of it came.
-fn read_part(space: &mut [u8], length: usize) -> bool {
-    if space.len() < length {
-        return false;
-    }
-    io::read_full(STDIN_FILENO, &mut space[0..length]) == length
 }
 
 // Room for the bytes of a question.
-pub fn room() -> [u8; 131072] {
-    [0; 131072]
+pub fn room(alloc: Global) -> Result<Vec<u8>, AllocError> {
+    vec![in alloc; 0; 131072]
 }
 
-// The next question, its bytes at the front of the buffer. Where the head is cut, 255s are left in it, and no buffer has room for so long a table.
-pub fn read_question(space: &mut [u8]) -> Question {
-    let mut head = [255u8; 59];
-    io::read_full(STDIN_FILENO, &mut head);
-    let mut q = read_head(&head);
-    q.whole = read_part(space, q.bytes);
-    q
+// The next question, its bytes put at the front of the buffer. An input that ends here is an error, and so is a question that is cut or has no room.
+pub fn read_question<'a, R: Read>(input: &mut R, space: &'a mut [u8]) -> io::Result<Question<'a>> {
+    let mut head = [0u8; 59];
+    input.read_exact(&mut head)?;
+    let record = u32_at(&head, 51) as usize;
+    let table = u32_at(&head, 55) as usize;
+    let Some(given) = space.get_mut(..record + table) else {
+        return Err(io::Error::from(ErrorKind::InvalidData));
+    };
+    input.read_exact(given)?;
+    let (record, table) = given.split_at(record);
+    Ok(read_head(&head, record, table))
 }
 
-// The bytes of a buffer from one place up to another, or all of it where these are none.
-pub fn part(space: &[u8], from: usize, to: usize) -> &[u8] {
-    if to < from {
-        return space;
+// Answers one question after another. It ends by the error that the input's end is, or that of an answer that could not be written.
+fn answer_each<R: Read, W: Write, F: Fn(&Question<'_>, &mut W) -> io::Result<()>>(
+    input: &mut R,
+    space: &mut [u8],
+    out: &mut W,
+    answer: &F,
+) -> io::Result<()>
+    requires { F.IsAlwaysCallable answer.now }
+{
+    for _ in 0..u64::MAX {
+        answer(&read_question(input, space)?, out)?;
     }
-    if space.len() < to {
-        return space;
-    }
-    &space[from..to]
+    Ok(())
 }
 
-// Writes a word, so many of the numbers behind it, in decimal, and a last byte: a space where more of the line is to come. No answer has a longer word.
-// Whether it could be written is not asked: what is missing is missed by the test.
-pub fn tell(word: &[u8], numbers: [u64; 8], count: usize, last: u8) {
-    if word.len() > 16 {
-        return;
+// Answers what comes on standard input, to standard output. Whether all could be written is not asked: what is missing is missed by the test.
+pub fn answer_all<R, F>(rt: &R, answer: F) -> io::Result<()>
+where
+    R: Input + Print + AllocGlobal,
+    F: Fn(&Question<'_>, &mut BufWriter<Printer<'_, R>>) -> io::Result<()>,
+    requires { F.IsAlwaysCallable answer }
+{
+    let mut input = BufReader::new(rt.alloc(), rt.reader())?;
+    let mut out = BufWriter::new(rt.alloc(), io::writer(rt))?;
+    let mut space = room(rt.alloc())?;
+    let _ = answer_each(&mut input, &mut space, &mut out, &answer);
+    out.flush()
+}
+
+// Writes a word, the numbers behind it, in decimal, and a last byte: a space where more of the line is to come.
+pub fn tell(out: &mut impl Write, word: &str, numbers: &[u64], last: u8) -> io::Result<()> {
+    out.write_all(word.as_bytes())?;
+    for n in numbers {
+        write!(out, " {n}")?;
     }
-    if count > 8 {
-        return;
-    }
-    let mut out = [0u8; 256];
-    let end = put_words(&mut out, 0, word, &numbers[0..count]);
-    let end = put_byte(&mut out, end, last);
-    io::write_all(STDOUT_FILENO, &out[0..end]);
+    out.write_all(&[last])
 }
 
 // A word alone.
-pub fn say(word: &[u8], last: u8) {
-    tell(word, [0; 8], 0, last)
+pub fn say(out: &mut impl Write, word: &str, last: u8) -> io::Result<()> {
+    tell(out, word, &[], last)
 }
 
 // A word and one number.
-pub fn tell_one(word: &[u8], n: u64, last: u8) {
-    tell(word, [n; 8], 1, last)
+pub fn tell_one(out: &mut impl Write, word: &str, n: u64, last: u8) -> io::Result<()> {
+    tell(out, word, &[n], last)
 }
 
 // A refusal: its number, the record and the place.
-pub fn tell_refused(r: Refusal, last: u8) {
-    let file = r.file;
-    let place = r.place as u64;
-    tell(
-        b"refused",
-        [r.number as u64, file.0, place, 0, 0, 0, 0, 0],
-        3,
-        last,
-    )
+pub fn tell_refused(out: &mut impl Write, r: Refusal, last: u8) -> io::Result<()> {
+    let numbers = [u64::from(r.number), r.file.0, r.place as u64];
+    tell(out, "refused", &numbers, last)
 }
 
 // Writes a word, how many bytes there are, and these as they are, as a line.
-pub fn tell_bytes(word: &[u8], v: &[u8]) {
-    tell_one(word, v.len() as u64, b' ');
-    io::write_all(STDOUT_FILENO, v);
-    io::write_all(STDOUT_FILENO, b"\n");
+pub fn tell_bytes(out: &mut impl Write, word: &str, v: &[u8]) -> io::Result<()> {
+    tell_one(out, word, v.len() as u64, b' ')?;
+    out.write_all(v)?;
+    out.write_all(b"\n")
 }

@@ -1,4 +1,4 @@
-use Rattle.std.proofs.Common.{◌<◌, ◌≡◌, ap, ◌∙◌, sym, refl, arith}
+use Rattle.std.proofs.Common.{ap, ◌∙◌, sym, refl, arith}
 use Rattle.parts.specs.Parts.{cursor}
 use Rattle.parts.proofs.Fills.{made, goes_on, begun_at, more}
 use Rattle.lent.proofs.Kept.{written}
@@ -17,7 +17,8 @@ loop-a-smaller c = (goes_on _ _ _ _ _ _ _ _ c.step-m.ensures.result_value c.in-L
 
 pub loop-a-preserved : goal.loop-a-preserved
 loop-a-preserved c =
-    more _ _ _ _ _ _ _ _ _ _ c.loop-a.invariant _ _ _ (sym c.step-m.ensures.result_value ∙ made c.step-m.result c.in-Lists.is)
+    more _ _ _ _ _ _ _ _ _ _ c.loop-a.invariant _ _ _
+    (sym c.step-m.ensures.result_value ∙ made c.step-m.result c.in-Lists.is)
     c.step-m.ensures.reads_bound (omega arith)
 
 pub returns : goal.returns

@@ -1,5 +1,5 @@
 use Rattle.std.specs.Prelude.{replicate}
-use Rattle.std.proofs.Common.{◌≡◌, ap}
+use Rattle.std.proofs.Common.{ap}
 use Rattle.parts.specs.Parts.{parts_of, blank_parts}
 use Rattle.lent.proofs.Front.{collected}
 use Rattle.lent.proofs.list_within.Goals as goal

@@ -1,4 +1,4 @@
-use Rattle.std.proofs.Common.{◌+◌, ◌<◌, ◌≡◌, ap, ◌∙◌, sym, arith}
+use Rattle.std.proofs.Common.{ap, ◌∙◌, sym, arith}
 use Rattle.std.specs.Prelude.{replicate}
 use Rattle.parts.specs.Parts.{blank_parts, cursor}
 use Rattle.parts.proofs.Fills.{made, goes_on, begun_at, collected, more, blank_size}
@@ -24,9 +24,11 @@ loop-a-smaller c = (goes_on _ _ _ _ _ _ _ _ c.step-m.ensures.result_value c.in-L
 
 pub loop-a-preserved : goal.loop-a-preserved
 loop-a-preserved c =
-    more _ _ _ _ _ _ _ _ _ _ c.loop-a.invariant _ _ _ (sym c.step-m.ensures.result_value ∙ made c.step-m.result c.in-Lists.is)
+    more _ _ _ _ _ _ _ _ _ _ c.loop-a.invariant _ _ _
+    (sym c.step-m.ensures.result_value ∙ made c.step-m.result c.in-Lists.is)
     c.step-m.ensures.reads_bound (omega (arith, blank_size))
 
 pub returns : goal.returns
 returns c =
-    collected _ _ _ _ _ _ _ _ _ _ c.loop-a.invariant _ _ (sym c.step-m.ensures.result_value ∙ made c.step-m.result c.in-Stops.is)
+    collected _ _ _ _ _ _ _ _ _ _ c.loop-a.invariant _ _
+    (sym c.step-m.ensures.result_value ∙ made c.step-m.result c.in-Stops.is)

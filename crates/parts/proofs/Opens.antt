@@ -14,10 +14,12 @@ use Rattle.items.specs.Start.{inside_of}
 pub ready : (s : List ℕ) (n : RecordNumber) (t : List ℕ) (h : TableHeader) → open_table s n t ≡ gives h → Ready s t h
 ready s n t h e = let o = opened s n t h e in record { sound = o.table; small = (opened_sized s n o.passed).most }
 
-pub ordered : (s : List ℕ) (n : RecordNumber) (l : Rest) (u : Unit) → inside_of s n l ≡ gives u → l.is ≡ true → l.from ≤ l.to
+pub ordered : (s : List ℕ) (n : RecordNumber) (l : Rest) (u : Unit) → inside_of s n l ≡ gives u → l.is ≡ true
+    → l.from ≤ l.to
 unfolding inside_of
 ordered s n l u e i = grind (arith, nat_tests)
 
-pub within : (s : List ℕ) (n : RecordNumber) (l : Rest) (u : Unit) → inside_of s n l ≡ gives u → l.is ≡ true → l.to ≤ length s
+pub within : (s : List ℕ) (n : RecordNumber) (l : Rest) (u : Unit) → inside_of s n l ≡ gives u → l.is ≡ true
+    → l.to ≤ length s
 unfolding inside_of
 within s n l u e i = grind (arith, nat_tests)
