@@ -3,7 +3,7 @@
 use Prim.Native.Nat.{ℕ, zero, suc, ◌+◌, ◌<◌}
 use mathlib.Core.Path.{◌≡◌, refl, sym, ap}
 use mathlib.Core.List.{List, [], ◌∷◌, ◌++◌, Memᴰ}
-use mathlib.Core.Option.{Option}
+use Rattle.std.specs.Prelude.{Option}
 use native.Mathlib.Omega.{arith}
 use Rattle.std.specs.Prelude.{length, slice_index_or}
 use lib.Dec.{ltb}

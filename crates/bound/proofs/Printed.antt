@@ -3,7 +3,7 @@ use Prim.Native.Nat.{ℕ, zero, suc, ◌<◌, zero-le}
 use mathlib.Core.Path.{◌≡◌, refl}
 use mathlib.Core.Logic.{inl, inr}
 use mathlib.Core.List.{List, [], ◌∷◌, ◌++◌}
-use mathlib.Core.Option.{Option, none, some}
+use Rattle.std.specs.Prelude.{Option, None, Some}
 use native.Mathlib.Nat.{not-suc-le-zero, lt-suc_self}
 use native.Mathlib.Omega.{arith}
 use borrow.Author.Tests.{eqb-true}
@@ -84,8 +84,8 @@ module _ (t : List ℕ) (h : TableHeader) (q : table_of t ≡ gives h) (b : Held
 base-listed : (t : List ℕ) (h : TableHeader) → table_of t ≡ gives h → (o : Option Held) → base_of t ≡ o
     → Listed t (base_lines t h o)
 unfolding base_lines
-base-listed t h q (some b) e = inr (b, e, opened-tells t h q b _ _ refl (open-sure b.bytes b.number h.size))
-base-listed t h q none e = inl refl
+base-listed t h q (Some b) e = inr (b, e, opened-tells t h q b _ _ refl (open-sure b.bytes b.number h.size))
+base-listed t h q None e = inl refl
 
 checked-listed : (t : List ℕ) (a : Answer TableHeader) → table_of t ≡ a → Listed t (checked_lines t a)
 unfolding checked_lines

@@ -1,7 +1,7 @@
 -- Why a list is told by where its attribute ends: there the raw walk stands while the list is open, and while it
 -- stands there no other is opened.
 use Rattle.std.specs.Prelude.{◌≡◌, ℕ, ◌<◌, ◌⊎◌, List, true}
-use Rattle.std.proofs.Math.Option.{Option}
+use Rattle.std.specs.Prelude.{Option}
 use Rattle.fields.specs.declared.RecordNumber.{RecordNumber}
 use Rattle.turns.specs.Turn.{Small, passes, answers}
 use Rattle.turns.specs.declared.State.{State}

@@ -1,7 +1,7 @@
 -- The listing of every table says that the table is refused, or tells in its last line a count of what was read: at
 -- most a + 3e + 2ea of its base record.
 use Rattle.std.specs.Prelude.{◌≡◌, ℕ, ◌≤◌, ◌⊎◌, List, [], ◌∷◌, length}
-use Rattle.std.proofs.Math.Option.{Option, some}
+use Rattle.std.specs.Prelude.{Option, Some}
 use Rattle.fields.specs.declared.RecordNumber.{RecordNumber}
 use Rattle.table.specs.Held.{Held, base_of}
 use Rattle.items.specs.Start.{fresh_of}
@@ -30,7 +30,7 @@ pub record Tells (s : List ℕ) (l : List Text) : Type 0 where
   pub few : count ≤ most (length s)
 
 abbrev pub Listed : List ℕ → List Text → Type 0
-Listed t l = (l ≡ table_refused) ⊎ ((b : Held) × (base_of t ≡ some b) × Tells b.bytes l)
+Listed t l = (l ≡ table_refused) ⊎ ((b : Held) × (base_of t ≡ Some b) × Tells b.bytes l)
 
 -- for every table, whatever its bytes
 abbrev pub ListingsTell : Type 0

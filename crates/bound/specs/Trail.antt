@@ -1,7 +1,7 @@
 -- The trail of a whole listing: one element for each attribute and each entry that is read, in the order of reading,
 -- by the same steps that count them.
 use Rattle.std.specs.Prelude.{ℕ, zero, suc, ◌+◌, ◌-◌, List, [], ◌∷◌, ◌++◌, eqb, ltb}
-use Rattle.std.proofs.Math.Option.{Option}
+use Rattle.std.specs.Prelude.{Option}
 use Rattle.fields.specs.Pick.{pick}
 use Rattle.fields.specs.Answer.{Answer, gives, ends, refuses, refusal}
 use Rattle.fields.specs.Known.{known_type}

@@ -5,7 +5,7 @@
 -- inside it; and no list entry, told by its list and its place there, gives a part to two items.
 use Rattle.std.specs.Prelude.{◌≡◌, ℕ, ◌+◌, ◌*◌, ◌/◌, ◌<◌, ◌≤◌, List, [], ◌∷◌, length, slice_index_or, ⊤}
 use Rattle.std.specs.List.{AllByRecursion, Contains}
-use Rattle.std.proofs.Math.Option.{Option, some}
+use Rattle.std.specs.Prelude.{Option, Some}
 use Rattle.fields.specs.Answer.{gives}
 use Rattle.fields.specs.Header.{first_attribute}
 use Rattle.fields.specs.declared.RecordNumber.{RecordNumber}
@@ -48,7 +48,7 @@ PartBy items i x = Contains (slice_index_or items i []) x
 
 -- no record that is looked up is longer than the base record
 abbrev pub Sized : List ℕ → (RecordNumber → Option (List ℕ)) → Type 0
-Sized s look = (w : RecordNumber) (b : List ℕ) → look w ≡ some b → length b ≤ length s
+Sized s look = (w : RecordNumber) (b : List ℕ) → look w ≡ Some b → length b ≤ length s
 
 module _ (s : List ℕ) (n : RecordNumber) (look : RecordNumber → Option (List ℕ)) where
   -- an attribute of a record that was looked up

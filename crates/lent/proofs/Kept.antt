@@ -1,6 +1,6 @@
 -- Where a step stops the filling: what is reported, and what stands in the list.
 use Rattle.std.proofs.Common.{◌≡◌, ℕ, ◌+◌, List, length, sym, ap, ◌∙◌, arith}
-use Rattle.std.proofs.Math.Option.{Option}
+use Rattle.std.specs.Prelude.{Option}
 use Rattle.std.proofs.Math.Seq.{length-take-le}
 use Rattle.fields.specs.declared.RecordNumber.{RecordNumber}
 use Rattle.turns.specs.declared.Rest.{Rest}
