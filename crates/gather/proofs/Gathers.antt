@@ -1,13 +1,14 @@
 -- The numbers of the parts found so far stand in front of the lent ones, and from the cursor on the rest of the parts follows.
 use Rattle.std.proofs.Common.{◌≡◌, ℕ, zero, suc, ◌+◌, ◌-◌, ◌*◌, ◌<◌, ◌≤◌, false, List, [], ◌∷◌, ◌++◌, length, take, set, refl, sym, ap, ◌∙◌, subst, append_assoc, append-nil, arith}
-use Rattle.std.specs.Prelude.{Option}
+use Rattle.std.specs.Prelude.{Option, Result, Ok}
 use Rattle.std.proofs.lemmas.Slice.{take-put_mid}
 use borrow.Rule.Slice.PartMut.{put_mid}
 use lib.Dec.{eqb}
 use lib.Seq.{length-take-le}
 use Rattle.fields.specs.Pick.{pick}
-use Rattle.fields.specs.Answer.{Answer, gives}
+use Rattle.fields.specs.Answer.{Answer, gives, told}
 use Rattle.fields.specs.declared.RecordNumber.{RecordNumber}
+use Rattle.fields.specs.declared.Refusal.{Refusal}
 use Rattle.fields.proofs.Stores.{stored}
 use Rattle.fields.proofs.Cases.{no, eq-n}
 use Rattle.values.specs.declared.ValuePlace.{ValuePlace}
@@ -15,11 +16,9 @@ use Rattle.values.specs.declared.Span.{Span}
 use Rattle.turns.specs.State.{no_key}
 use Rattle.turns.specs.declared.Item.{Item}
 use Rattle.turns.specs.declared.Rest.{Rest}
-use Rattle.parts.specs.Parts.{step_in, lists, stops, cursor, Listing, listing, parts_from, parts_in, blank_parts, told_ended}
+use Rattle.parts.specs.Parts.{step_in, lists, stops, cursor, Listing, listing, parts_from, parts_in, blank_parts}
 use Rattle.part.specs.declared.Part.{Part}
 use Rattle.parts.specs.declared.Cursor.{Cursor}
-use Rattle.parts.specs.declared.Ended.{Ended}
-use Rattle.parts.specs.declared.Ended.TheVariants as ended
 use Rattle.parts.proofs.Fills.{Filling, begun, stopped, more, blank_size}
 use Rattle.line.specs.Lines.{Text, part_numbers, name_text, value_text, parts_text, attr_line}
 use Rattle.gather.specs.Gather.{first_size, name_for, value_for, parts_for, parts_text_of, item_line, all_numbers, Gathers}
@@ -72,10 +71,10 @@ module _ (s : List ℕ) (n : RecordNumber) (look : RecordNumber → Option (List
               ∙ sized (take count ps) p count (length-take-le count ps (omega arith)) ∙ ap first_size (sym taken);
         }
 
-    pub gathers : (a : Ended) (k : ℕ) → step_in s n look 157 count c ≡ stops (told_ended a) k
+    pub gathers : (a : Result Unit Refusal) (k : ℕ) → step_in s n look 157 count c ≡ stops (told a) k
         → Gathers (parts_from s n look 157 l) ns (record { count = count; size = size; answer = a; reads = reads + k })
     gathers a k e =
-        let w = stopped s n look 157 l blank_parts ps count reads c h.filling (told_ended a) k e in
+        let w = stopped s n look 157 l blank_parts ps count reads c h.filling (told a) k e in
         let z = h.filling.size in let m = h.filling.most in
         record {
           count = sym (length-take-le count ps (omega arith)) ∙ ap (λ (x : Listing). length x.parts) (sym w);
@@ -87,26 +86,26 @@ module _ (s : List ℕ) (n : RecordNumber) (look : RecordNumber → Option (List
 
 -- no list, no parts
 pub gathered_none : (s : List ℕ) (n : RecordNumber) (look : RecordNumber → Option (List ℕ)) (l : Rest) (ns : List ℕ) → l.is ≡ false
-    → Gathers (parts_in s n look 157 l) ns (record { count = 0; size = 0; answer = ended.Whole; reads = 0 })
+    → Gathers (parts_in s n look 157 l) ns (record { count = 0; size = 0; answer = Ok tt; reads = 0 })
 unfolding parts_in first_size all_numbers
 gathered_none s n look l ns e =
-    subst (λ (x : Listing). Gathers x ns (record { count = 0; size = 0; answer = ended.Whole; reads = 0 })) (no l.is (parts_from s n look 157 l) (listing [] (gives tt) 0) e refl) (nothing ns)
+    subst (λ (x : Listing). Gathers x ns (record { count = 0; size = 0; answer = Ok tt; reads = 0 })) (no l.is (parts_from s n look 157 l) (listing [] (gives tt) 0) e refl) (nothing ns)
   where
-    nothing : (ns : List ℕ) → Gathers (listing [] (gives tt) 0) ns (record { count = 0; size = 0; answer = ended.Whole; reads = 0 })
+    nothing : (ns : List ℕ) → Gathers (listing [] (gives tt) 0) ns (record { count = 0; size = 0; answer = Ok tt; reads = 0 })
     nothing ns = record { count = refl; size = refl; answer = refl; reads = refl; kept = refl }
 
 -- the text of an item's line, from what the calls answered
 pub item_text : (s : List ℕ) (n : RecordNumber) (look : RecordNumber → Option (List ℕ)) (i : Item) {name : Answer Span} {value : Answer ValuePlace} {ns : List ℕ} {r : Gathered}
     → name ≡ name_for s n look i → value ≡ value_for s n look i → Gathers (parts_for s n look i) ns r
-    → attr_line i (name_text name) (pick i.rest.is (parts_text r.count r.size (told_ended r.answer)) (value_text value)) ≡ item_line s n look i
+    → attr_line i (name_text name) (pick i.rest.is (parts_text r.count r.size (told r.answer)) (value_text value)) ≡ item_line s n look i
 unfolding item_line parts_text_of
 item_text s n look i {name} {value} {ns} {r} a b g =
-    ap (λ (x : Answer Span). attr_line i (name_text x) (pick i.rest.is (parts_text r.count r.size (told_ended r.answer)) (value_text value))) a
-    ∙ ap (λ (x : Answer ValuePlace). attr_line i (name_text (name_for s n look i)) (pick i.rest.is (parts_text r.count r.size (told_ended r.answer)) (value_text x))) b
+    ap (λ (x : Answer Span). attr_line i (name_text x) (pick i.rest.is (parts_text r.count r.size (told r.answer)) (value_text value))) a
+    ∙ ap (λ (x : Answer ValuePlace). attr_line i (name_text (name_for s n look i)) (pick i.rest.is (parts_text r.count r.size (told r.answer)) (value_text x))) b
     ∙ ap (λ (x : Text). attr_line i (name_text (name_for s n look i)) (pick i.rest.is x (value_text (value_for s n look i)))) (told-so g)
   where
-    told-so : Gathers (parts_for s n look i) ns r → parts_text r.count r.size (told_ended r.answer) ≡ parts_text_of (parts_for s n look i)
+    told-so : Gathers (parts_for s n look i) ns r → parts_text r.count r.size (told r.answer) ≡ parts_text_of (parts_for s n look i)
     told-so g =
-        ap (λ (x : ℕ). parts_text x r.size (told_ended r.answer)) g.count
-        ∙ ap (λ (x : ℕ). parts_text (length (parts_for s n look i).parts) x (told_ended r.answer)) g.size
+        ap (λ (x : ℕ). parts_text x r.size (told r.answer)) g.count
+        ∙ ap (λ (x : ℕ). parts_text (length (parts_for s n look i).parts) x (told r.answer)) g.size
         ∙ ap (parts_text (length (parts_for s n look i).parts) (first_size (parts_for s n look i).parts)) g.answer

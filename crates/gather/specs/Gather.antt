@@ -2,7 +2,7 @@
 use Rattle.std.specs.Prelude.{ℕ, ◌*◌, List, [], ◌∷◌, ◌++◌, length, take, ◌≡◌}
 use Rattle.std.specs.Prelude.{Option}
 use Rattle.fields.specs.Pick.{pick}
-use Rattle.fields.specs.Answer.{Answer, ◌⟫◌}
+use Rattle.fields.specs.Answer.{Answer, told, ◌⟫◌}
 use Rattle.fields.specs.declared.RecordNumber.{RecordNumber}
 use Rattle.values.specs.Name.{name_of}
 use Rattle.values.specs.Value.{value_of}
@@ -57,6 +57,6 @@ all_numbers (p ∷ ps) = part_numbers p ++ all_numbers ps
 pub record Gathers (l : parts.Listing) (ns : List ℕ) (r : Gathered) : Type 0 where
   pub count : r.count ≡ length l.parts
   pub size : r.size ≡ first_size l.parts
-  pub answer : parts.told_ended r.answer ≡ l.answer
+  pub answer : told r.answer ≡ l.answer
   pub reads : r.reads ≡ l.reads
   pub kept : take (5 * r.count) ns ≡ all_numbers l.parts

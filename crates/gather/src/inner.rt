@@ -15,7 +15,7 @@ use fields::RecordNumber;
 use line::Gathered;
 use lookup::Placed;
 use part::Part;
-use parts::{Cursor, Ended, PartKind};
+use parts::{Cursor, PartKind};
 use table::TableHeader;
 use turns::{Item, Rest};
 use values::{Spanned, Valued};
@@ -154,7 +154,7 @@ fn gathered<'a>(
     Gathered {
         count: 0,
         size: 0,
-        answer: Ended::Whole,
+        answer: Ok(()),
         reads: 0,
     }
 }

@@ -1,8 +1,8 @@
 -- 01, "Parts": "Parts go, in list order, to a lent list of part records, filled from the front;
 -- records past the reported number are unchanged."
 use Rattle.std.specs.Prelude.{◌≡◌, List, length}
-use Rattle.fields.specs.Answer.{Answer}
-use Rattle.parts.specs.Parts.{told_ended, Listing, filled}
+use Rattle.fields.specs.Answer.{Answer, told}
+use Rattle.parts.specs.Parts.{Listing, filled}
 use Rattle.part.specs.declared.Part.{Part}
 use Rattle.lent.specs.declared.Filled.{Filled}
 
@@ -13,11 +13,11 @@ pub record Fills (l : Listing) (before after : List Part) (r : Filled) : Type 0 
   -- "the reported number" is theirs
   pub count : r.count ≡ length l.parts
   -- whole, or the refusal that ended them; those listed before it stay written
-  pub answer : told_ended r.answer ≡ l.answer
+  pub answer : told r.answer ≡ l.answer
   pub reads : r.reads ≡ l.reads
 
 -- ended before the first part
 pub record Empty (a : Answer Unit) (r : Filled) : Type 0 where
   pub count : r.count ≡ 0
-  pub answer : told_ended r.answer ≡ a
+  pub answer : told r.answer ≡ a
   pub reads : r.reads ≡ 0

@@ -2,28 +2,29 @@
 #![tactic(auto)]
 
 ghost use Rattle.std.specs.Prelude.{◌≤◌, min, length};
+ghost use Rattle.fields.specs.Answer.{told};
 ghost use Rattle.table.specs.Held.{record_of};
 ghost use Rattle.turns.specs.State.{Ready};
-ghost use Rattle.parts.specs.Parts.{told_ended, parts_from, parts_of, blank_parts, Collects};
+ghost use Rattle.parts.specs.Parts.{parts_from, parts_of, blank_parts, Collects};
 ghost use Rattle.lent.specs.Lent.{Fills, Empty};
 
-use fields::{Opened, RecordNumber};
+use fields::{RecordNumber, Refusal};
 use part::Part;
-use parts::{Collected, Cursor, Ended, PartKind};
-use table::{TableHeader, Tested};
+use parts::{Collected, Cursor, PartKind};
+use table::TableHeader;
 use turns::Rest;
 
-// What is reported: how many parts were written, how they end, and what was read.
+// What is reported: how many parts were written, whether they are whole, and what was read.
 #[derive(Clone, Copy)]
 pub struct Filled {
     pub count: usize,
-    pub answer: Ended,
+    pub answer: Result<(), Refusal>,
     pub reads: u64,
 }
 
 // Ended before the first part.
-fn none(answer: Ended) -> Filled
-    ensures { Empty (told_ended answer) result }
+fn none(answer: Result<(), Refusal>) -> Filled
+    ensures { Empty (told answer) result }
 {
     Filled {
         count: 0,
@@ -53,7 +54,7 @@ fn fill<'a, 'b>(
         list: l,
         key: turns::inner::no_key(),
     };
-    let answer = loop {
+    let answer = 'steps: loop {
         let m = parts::inner::step(base, number, t, h, room, count, c);
         reads += m.reads;
         match m.kind {
@@ -85,14 +86,14 @@ pub fn list<'a, 'b>(
     ensures { Fills (parts_of base.now number t.now (length list.old) l) list.old list.new result }
 {
     match table::opening(base, number, t) {
-        Tested::Refused(r) => none(Ended::Refused(r)),
-        Tested::Sound(h) => match items::inside(base, number, l) {
-            Opened::Refused(r) => none(Ended::Refused(r)),
-            Opened::Passed => {
+        Err(r) => none(Err(r)),
+        Ok(h) => match items::inside(base, number, l) {
+            Err(r) => none(Err(r)),
+            Ok(()) => {
                 if l.is {
                     return fill(base, number, t, h, l, list);
                 }
-                none(Ended::Whole)
+                none(Ok(()))
             }
         },
     }

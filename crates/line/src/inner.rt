@@ -1,16 +1,15 @@
 // The lines of the listing, each put behind the text so far, for callers that have shown that there is room. None is longer than 256 bytes.
 ghost use Rattle.std.specs.Prelude.{◌+◌, ◌≤◌, ◌≡◌, [], ◌∷◌, ◌++◌, length};
 ghost use Rattle.fields.specs.Pick.{pick};
+ghost use Rattle.fields.specs.Answer.{told};
 ghost use Rattle.values.specs.Span.{told_spanned};
 ghost use Rattle.values.specs.Value.{told_valued};
-ghost use Rattle.parts.specs.Parts.{told_ended};
 ghost use Rattle.text.specs.Put.{Put};
 ghost use Rattle.text.specs.Decimal.{numbers};
 ghost use Rattle.line.specs.Lines.{record_line, name_text, value_text, parts_text, attr_line, part_line_of, end_line, stopped_line, refused_line};
 
 use crate::Gathered;
 use fields::RecordNumber;
-use parts::Ended;
 use text::inner::{put_byte, put_words};
 use turns::Item;
 use values::{Spanned, Valued};
@@ -70,20 +69,20 @@ fn put_value(out: &mut [u8], at: usize, value: Valued) -> usize
 // value parts K, and their size or the refusal that ends them
 fn put_parts(out: &mut [u8], at: usize, g: Gathered) -> usize
     requires { at + 79 ≤ length out.old }
-    ensures { Put out.old at out.new result (parts_text g.count g.size (told_ended g.answer)) 79 }
+    ensures { Put out.old at out.new result (parts_text g.count g.size (told g.answer)) 79 }
 {
     let end = put_one(out, at, b" value parts", g.count as u64);
     let answer = g.answer;
     match answer {
-        Ended::Whole => put_one(out, end, b" size", g.size),
-        Ended::Refused(r) => put_one(out, end, b" refused", r.number as u64),
+        Ok(()) => put_one(out, end, b" size", g.size),
+        Err(r) => put_one(out, end, b" refused", r.number as u64),
     }
 }
 
 // Its parts where an item has a list, else its value.
 fn put_contents(out: &mut [u8], at: usize, is: bool, g: Gathered, value: Valued) -> usize
     requires { at + 79 ≤ length out.old }
-    ensures { Put out.old at out.new result (pick is (parts_text g.count g.size (told_ended g.answer)) (value_text (told_valued value))) 79 }
+    ensures { Put out.old at out.new result (pick is (parts_text g.count g.size (told g.answer)) (value_text (told_valued value))) 79 }
 {
     if is {
         return put_parts(out, at, g);
@@ -102,7 +101,7 @@ pub fn attr_line(
 ) -> usize
     requires { at + 256 ≤ length out.old }
     ensures { Put out.old at out.new result
-        (attr_line i (name_text (told_spanned name)) (pick i.rest.is (parts_text g.count g.size (told_ended g.answer)) (value_text (told_valued value)))) 256 }
+        (attr_line i (name_text (told_spanned name)) (pick i.rest.is (parts_text g.count g.size (told g.answer)) (value_text (told_valued value)))) 256 }
 {
     let file = i.file;
     let h = i.attribute;

@@ -1,20 +1,19 @@
 -- What joins the parts of a stream: the third definition, beside those of items/specs/Key, that knows what a key is made of.
-use Rattle.std.specs.Prelude.{ℕ, List, eqb}
+use Rattle.std.specs.Prelude.{ℕ, List, Bool, true, false, eqb, Result, Ok, Err}
 use Rattle.fields.specs.Pick.{pick}
 use Rattle.fields.specs.Answer.{Answer, gives, ends, refuses, refusal}
 use Rattle.fields.specs.Known.{known_type}
 use Rattle.fields.specs.declared.RecordNumber.{RecordNumber}
+use Rattle.fields.specs.declared.Refusal.{Refusal}
 use Rattle.list.specs.declared.Entry.{Entry}
 use Rattle.turns.specs.Key.{key_of}
 use Rattle.turns.specs.declared.Key.{Key}
-use Rattle.part.specs.declared.Joined.{Joined}
-use Rattle.part.specs.declared.Joined.TheVariants as joined
 
--- the answer of the judge, case by case
-abbrev pub told_joined : Joined → Answer Unit
-told_joined joined.On = gives tt
-told_joined joined.End = ends
-told_joined (joined.Refused r) = refuses r
+-- the answer of the judge, case by case: the entry goes on with the stream, the parts end, or a refusal
+abbrev pub told_joined : Result Bool Refusal → Answer Unit
+told_joined (Ok true) = gives tt
+told_joined (Ok false) = ends
+told_joined (Err r) = refuses r
 
 -- "those directly after it while instance and type agree. Where the instance agrees and the type is unknown: 6"
 unfoldable pub judge_part : Key → Entry → List ℕ → RecordNumber → ℕ → Answer Unit

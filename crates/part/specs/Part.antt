@@ -1,7 +1,7 @@
 -- "Each is looked up and found, then 19, 7, 12": the part that an entry leads to.
 use Rattle.std.specs.Prelude.{ℕ, List, Option}
 use Rattle.fields.specs.Pick.{pick}
-use Rattle.fields.specs.Answer.{Answer, gives, ends, refuses, refusal, Counted, ◌⟫◌}
+use Rattle.fields.specs.Answer.{Answer, gives, ends, refuses, refusal, Counted, told, ◌⟫◌}
 use Rattle.fields.specs.declared.RecordNumber.{RecordNumber}
 use Rattle.raw.specs.Find.{find_of}
 use Rattle.values.specs.Value.{full_in, runs_span, span_of}
@@ -13,21 +13,14 @@ use Rattle.values.specs.declared.Span.{Span}
 use Rattle.list.specs.declared.Entry.{Entry}
 use Rattle.lookup.specs.Lookup.{lookup_in}
 use Rattle.part.specs.declared.Part.{Part}
-use Rattle.part.specs.declared.PartRead.{PartRead}
-use Rattle.part.specs.declared.PartRead.TheVariants as read
 use Rattle.part.specs.declared.PartFound.{PartFound}
-
--- the answer of a call for one part, case by case
-abbrev pub told_read : PartRead → Answer Part
-told_read (read.Given p) = gives p
-told_read (read.Refused r) = refuses r
 
 abbrev pub counted_part : Answer Part → ℕ → Counted Part
 counted_part a k = record { answer = a; reads = k }
 
--- it, with its count
+-- the answer of a call for one part, with its count
 abbrev pub told_part : PartFound → Counted Part
-told_part f = counted_part (told_read f.answer) f.reads
+told_part f = counted_part (told f.answer) f.reads
 
 -- the part's fields; "VCN is the attribute's own lowest"
 abbrev pub the_part : Entry → Attribute → NonResidentHeader → Span → Part

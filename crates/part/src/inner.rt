@@ -1,69 +1,64 @@
 // The steps to one part, for callers that made the opening checks.
 ghost use Rattle.std.specs.Prelude.{◌≡◌, ◌+◌, ◌≤◌, length};
-ghost use Rattle.fields.specs.Answer.{refuses, refusal};
+ghost use Rattle.fields.specs.Answer.{refuses, refusal, told};
 ghost use Rattle.raw.specs.Attribute.{Inside};
 ghost use Rattle.raw.specs.Find.{find_of};
-ghost use Rattle.values.specs.Value.{non_resident};
+ghost use Rattle.values.specs.declared.FullHeader.TheVariants.{NonResident};
 ghost use Rattle.table.specs.Held.{record_of};
 ghost use Rattle.turns.specs.State.{Ready};
 ghost use Rattle.part.specs.Join.{told_joined, judge_part, key_for};
-ghost use Rattle.part.specs.Part.{told_read, told_part, part_after, part_in, part_found, part_of};
+ghost use Rattle.part.specs.Part.{told_part, part_after, part_in, part_found, part_of};
 
-use crate::{Joined, Part, PartFound, PartRead};
+use crate::{Part, PartFound};
 use fields::{RecordNumber, Refusal, known_type};
 use list::Entry;
-use lookup::Placed;
-use raw::{Attribute, Checked};
+use raw::Attribute;
 use table::TableHeader;
 use turns::Key;
 use turns::inner::key_of;
-use values::{FullHeader, NonResidentHeader, Valued};
+use values::{FullHeader, NonResidentHeader, ValuePlace};
 
-fn no_part(n: u8, number: RecordNumber, place: usize) -> PartRead
-    ensures { told_read result ≡ refuses (refusal n number place) }
+fn no_part(n: u8, number: RecordNumber, place: usize) -> Result<Part, Refusal>
+    ensures { told result ≡ refuses (refusal n number place) }
 {
-    PartRead::Refused(Refusal {
+    Err(Refusal {
         number: n,
         file: number,
         place,
     })
 }
 
-// Whether an entry goes on with the stream of a key.
+// Whether an entry goes on with the stream of a key: it does, the parts end, or 6.
 // The part that begins at the entry is there for keys that hold a name.
 #[tactic(auto, unfolding(crate::specs::Join::judge_part))]
-pub fn judge_part(key: Key, e: Entry, part: &[u8], number: RecordNumber, place: usize) -> Joined
+pub fn judge_part(key: Key, e: Entry, part: &[u8], number: RecordNumber, place: usize) -> Result<bool, Refusal>
     ensures { told_joined result ≡ judge_part key e part.now number place }
 {
-    if e.instance == key.instance {
-        if known_type(e.ty) {
-            if e.ty == key.ty {
-                return Joined::On;
-            }
-            return Joined::End;
-        }
-        return Joined::Refused(Refusal {
+    if e.instance != key.instance {
+        return Ok(false);
+    }
+    if !known_type(e.ty) {
+        return Err(Refusal {
             number: 6,
             file: number,
             place,
         });
     }
-    Joined::End
+    Ok(e.ty == key.ty)
 }
 
 // The part of a non-resident attribute, behind 7: 12.
 #[tactic(auto, unfolding(crate::specs::Part::part_after, values::specs::Value::span_of))]
-fn part_after(e: Entry, h: Attribute, f: NonResidentHeader) -> PartRead
+fn part_after(e: Entry, h: Attribute, f: NonResidentHeader) -> Result<Part, Refusal>
     requires { h.offset + h.length ≤ 4096 }
-    ensures { told_read result ≡ part_after e h (non_resident f) }
+    ensures { told result ≡ part_after e h (NonResident f) }
 {
-    match values::inner::runs_span(e.file, h, f) {
-        Valued::Refused(r) => PartRead::Refused(r),
-        Valued::Resident(p) | Valued::Runs(p, _) => PartRead::Given(Part {
+    match values::inner::runs_span(e.file, h, f)? {
+        ValuePlace::Resident(runs) | ValuePlace::Runs(runs, _) => Ok(Part {
             file: e.file,
             offset: h.offset,
             lowest: f.lowest,
-            runs: p,
+            runs,
             size: f.size,
             listed: e.lowest,
         }),
@@ -72,15 +67,14 @@ fn part_after(e: Entry, h: Attribute, f: NonResidentHeader) -> PartRead
 
 // The part of an attribute that was found: 19, then 7, then 12.
 #[tactic(auto, unfolding(crate::specs::Part::part_in, crate::specs::Part::part_after))]
-fn part_in(t: &[u8], e: Entry, h: Attribute) -> PartRead
+fn part_in(t: &[u8], e: Entry, h: Attribute) -> Result<Part, Refusal>
     requires { Inside t.now h }
-    ensures { told_read result ≡ part_in t.now e h }
+    ensures { told result ≡ part_in t.now e h }
 {
     if h.resident {
         return no_part(19, e.file, h.offset);
     }
-    match values::inner::full_of(t, e.file, h) {
-        FullHeader::Refused(r) => PartRead::Refused(r),
+    match values::inner::full_of(t, e.file, h)? {
         FullHeader::Resident(_) => no_part(19, e.file, h.offset),
         FullHeader::NonResident(f) => part_after(e, h, f),
     }
@@ -95,8 +89,8 @@ fn part_found(t: &[u8], number: RecordNumber, e: Entry, place: usize) -> PartFou
 {
     let f = raw::inner::find(t, e.file, e.ty, e.instance, number, place);
     let answer = match f.answer {
-        Checked::Refused(r) => PartRead::Refused(r),
-        Checked::Given(h) => part_in(t, e, h),
+        Err(r) => Err(r),
+        Ok(h) => part_in(t, e, h),
     };
     PartFound {
         answer,
@@ -118,13 +112,12 @@ pub fn part_of<'a>(
     ensures result_value { told_part result ≡ part_of base.now number (record_of t.now) e place }
     ensures reads_bound { result.reads ≤ 256 }
 {
-    let p = lookup::inner::lookup(base, number, t, h, e.file, place);
-    match p {
-        Placed::Refused(r) => PartFound {
-            answer: PartRead::Refused(r),
+    match lookup::inner::lookup(base, number, t, h, e.file, place) {
+        Err(r) => PartFound {
+            answer: Err(r),
             reads: 0,
         },
-        Placed::At(q) => part_found(lookup::inner::part(base, t, h, q), number, e, place),
+        Ok(q) => part_found(lookup::inner::part(base, t, h, q), number, e, place),
     }
 }
 

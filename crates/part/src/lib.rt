@@ -18,24 +18,9 @@ pub struct Part {
     pub listed: Vcn,
 }
 
-// A part, or the refusal.
-#[derive(Clone, Copy)]
-pub enum PartRead {
-    Given(Part),
-    Refused(Refusal),
-}
-
-// It, with what was read for it.
+// A part, or the refusal, and what was read for it.
 #[derive(Clone, Copy)]
 pub struct PartFound {
-    pub answer: PartRead,
+    pub answer: Result<Part, Refusal>,
     pub reads: u64,
-}
-
-// Whether an entry goes on with the stream: it does, the parts end, or 6.
-#[derive(Clone, Copy)]
-pub enum Joined {
-    On,
-    End,
-    Refused(Refusal),
 }

@@ -2,15 +2,16 @@
 use Prim.Native.Nat.{ℕ, zero, suc, ◌+◌, ◌-◌, ◌*◌, ◌≤◌, ◌<◌}
 use mathlib.Core.Path.{◌≡◌, refl, sym, ap, ◌∙◌, subst}
 use mathlib.Core.List.{List, [], ◌∷◌, ◌++◌, append_assoc, append-nil}
-use Rattle.std.specs.Prelude.{Option}
+use Rattle.std.specs.Prelude.{Option, Result}
 use native.Mathlib.Nat.{not-suc-le-zero, zero-add, add_assoc}
 use native.Mathlib.Omega.{arith}
 use borrow.Author.Tests.{ltb-true}
 use lib.ListN.{length, take, drop, set, length-set, take-append-drop, length-replicate}
 use lib.Seq.{drop-set-lt, drop-drop, length-take-le}
 use Rattle.fields.proofs.Stores.{stored}
-use Rattle.fields.specs.Answer.{Answer, gives, ends, refuses}
+use Rattle.fields.specs.Answer.{Answer, gives, ends, refuses, told}
 use Rattle.fields.specs.declared.RecordNumber.{RecordNumber}
+use Rattle.fields.specs.declared.Refusal.{Refusal}
 use Rattle.fields.proofs.Cases.{not-second}
 use Rattle.list.specs.Entry.{entry_of}
 use Rattle.list.specs.declared.Entry.{Entry}
@@ -19,12 +20,11 @@ use Rattle.turns.specs.State.{no_key, part_of as listPart}
 use Rattle.turns.specs.declared.Rest.{Rest}
 use Rattle.turns.proofs.Turns.{entry-inside}
 use Rattle.part.specs.Join.{key_for}
-use Rattle.parts.specs.Parts.{Stepped, lists, stops, told_ended, told_kind, told_turn, cursor, cursor_past}
+use Rattle.parts.specs.Parts.{Stepped, lists, stops, told_kind, told_turn, cursor, cursor_past}
 use Rattle.parts.specs.Parts.{step_after, step_part, step_joined, step_keyed, step_entered, step_in}
 use Rattle.parts.specs.Parts.{Listing, listing, parts_after, parts_run, parts_from, filled, no_part, blank_parts, Collects}
 use Rattle.part.specs.declared.Part.{Part}
 use Rattle.parts.specs.declared.Cursor.{Cursor}
-use Rattle.parts.specs.declared.Ended.{Ended}
 use Rattle.parts.specs.declared.PartKind.{PartKind}
 use Rattle.parts.specs.declared.PartKind.TheVariants as kind
 use Rattle.parts.specs.declared.PartTurn.{PartTurn}
@@ -157,10 +157,10 @@ module _ (s : List ℕ) (n : RecordNumber) (look : RecordNumber → Option (List
         ∙ ap (λ (k : ℕ). take count parts ++ drop k before) (sym (length-take-le count parts (omega arith)))
 
     -- parts collected by value, where a step stops
-    pub collected : (a : Ended) (k : ℕ) → step_in s n look room count c ≡ stops (told_ended a) k
+    pub collected : (a : Result Unit Refusal) (k : ℕ) → step_in s n look room count c ≡ stops (told a) k
         → Collects (parts_from s n look room l) before (record { parts = parts; count = count; answer = a; reads = reads + k })
     collected a k e =
-        let p = sym (stopped (told_ended a) k e) in
+        let p = sym (stopped (told a) k e) in
         let m = h.most in let z = h.size in
         record {
           parts = filled_so ∙ ap (λ (x : Listing). filled x.parts before) p;

@@ -1,7 +1,7 @@
 -- 01, "Parts": one entry after another, from the item's own on.
 use Rattle.std.specs.Prelude.{ℕ, zero, suc, ◌+◌, ◌-◌, ◌≡◌, List, [], ◌∷◌, ◌++◌, ltb, length, drop, replicate, Option}
 use Rattle.fields.specs.Pick.{pick}
-use Rattle.fields.specs.Answer.{Answer, gives, ends, refuses, refusal, Counted, ◌⟫◌}
+use Rattle.fields.specs.Answer.{Answer, gives, ends, refuses, refusal, Counted, told, ◌⟫◌}
 use Rattle.fields.specs.declared.RecordNumber.{RecordNumber}
 use Rattle.list.specs.Entry.{entry_of}
 use Rattle.list.specs.declared.Entry.{Entry}
@@ -16,16 +16,9 @@ use Rattle.part.specs.Part.{part_of}
 use Rattle.part.specs.declared.Part.{Part}
 use Rattle.parts.specs.declared.Cursor.{Cursor}
 use Rattle.parts.specs.declared.Collected.{Collected}
-use Rattle.parts.specs.declared.Ended.{Ended}
-use Rattle.parts.specs.declared.Ended.TheVariants as ended
 use Rattle.parts.specs.declared.PartKind.{PartKind}
 use Rattle.parts.specs.declared.PartKind.TheVariants as kind
 use Rattle.parts.specs.declared.PartTurn.{PartTurn}
-
--- how parts end, case by case: whole, or a refusal
-abbrev pub told_ended : Ended → Answer Unit
-told_ended ended.Whole = gives tt
-told_ended (ended.Refused r) = refuses r
 
 -- one step: a part and where the next step begins, or how the parts end; each with what was read
 pub data Stepped : Type 0 where
@@ -34,7 +27,7 @@ pub data Stepped : Type 0 where
 
 abbrev pub told_kind : PartKind → Cursor → ℕ → Stepped
 told_kind (kind.Lists p) c k = lists p c k
-told_kind (kind.Stops e) c k = stops (told_ended e) k
+told_kind (kind.Stops e) c k = stops (told e) k
 
 -- what a step says, case by case
 abbrev pub told_turn : PartTurn → Stepped
@@ -129,5 +122,5 @@ blank_parts = replicate 157 no_part
 pub record Collects (l : Listing) (before : List Part) (r : Collected) : Type 0 where
   pub parts : r.parts ≡ filled l.parts before
   pub count : r.count ≡ length l.parts
-  pub answer : told_ended r.answer ≡ l.answer
+  pub answer : told r.answer ≡ l.answer
   pub reads : r.reads ≡ l.reads

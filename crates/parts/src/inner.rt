@@ -1,21 +1,22 @@
 // One part after another, for callers that made the opening checks.
 ghost use Rattle.std.specs.Prelude.{◌≡◌, ◌+◌, ◌≤◌, length};
+ghost use Rattle.fields.specs.Answer.{told};
 ghost use Rattle.table.specs.Held.{record_of};
 ghost use Rattle.turns.specs.State.{Ready};
 ghost use Rattle.part.specs.Part.{told_part};
-ghost use Rattle.parts.specs.Parts.{told_ended, told_turn, stops, step_part, step_keyed, step_in, parts_from, no_part, blank_parts, Collects};
+ghost use Rattle.parts.specs.Parts.{told_turn, stops, step_part, step_keyed, step_in, parts_from, no_part, blank_parts, Collects};
 
-use crate::{Collected, Cursor, Ended, PartKind, PartTurn};
+use crate::{Collected, Cursor, PartKind, PartTurn};
 use fields::{RecordNumber, Refusal, Vcn};
-use list::{Entry, EntryStep};
+use list::Entry;
 use part::inner::{judge_part, key_for, part_of};
-use part::{Joined, Part, PartFound, PartRead};
+use part::{Part, PartFound};
 use table::TableHeader;
 use turns::{Key, Rest};
 use values::Span;
 
-fn stop(a: Ended, next: Cursor, reads: u64) -> PartTurn
-    ensures result_value { told_turn result ≡ stops (told_ended a) reads }
+fn stop(a: Result<(), Refusal>, next: Cursor, reads: u64) -> PartTurn
+    ensures result_value { told_turn result ≡ stops (told a) reads }
     ensures reads_value { result.reads ≡ reads }
 {
     PartTurn {
@@ -34,8 +35,8 @@ fn step_part(f: PartFound, next: Cursor) -> PartTurn
 {
     let reads = f.reads + 1;
     match f.answer {
-        PartRead::Refused(r) => stop(Ended::Refused(r), next, reads),
-        PartRead::Given(p) => PartTurn {
+        Err(r) => stop(Err(r), next, reads),
+        Ok(p) => PartTurn {
             kind: PartKind::Lists(p),
             next,
             reads,
@@ -71,9 +72,9 @@ fn step_keyed<'a>(
     };
     let next = Cursor { list, key };
     match judge_part(key, e, part, number, place) {
-        Joined::End => stop(Ended::Whole, next, 1),
-        Joined::Refused(r) => stop(Ended::Refused(r), next, 1),
-        Joined::On => {
+        Ok(false) => stop(Ok(()), next, 1),
+        Err(r) => stop(Err(r), next, 1),
+        Ok(true) => {
             if k < room {
                 return step_part(part_of(base, number, t, h, e, place), next);
             }
@@ -82,7 +83,7 @@ fn step_keyed<'a>(
                 file: number,
                 place,
             };
-            stop(Ended::Refused(r), next, 1)
+            stop(Err(r), next, 1)
         }
     }
 }
@@ -106,9 +107,9 @@ pub fn step<'a>(
 {
     let part = &base[c.list.from..c.list.to];
     match list::header(part, number, c.list.from) {
-        EntryStep::End => stop(Ended::Whole, c, 0),
-        EntryStep::Refused(r) => stop(Ended::Refused(r), c, 0),
-        EntryStep::Given(e) => {
+        Ok(None) => stop(Ok(()), c, 0),
+        Err(r) => stop(Err(r), c, 0),
+        Ok(Some(e)) => {
             let key = key_for(c.key, e, part);
             step_keyed(base, number, t, h, part, room, k, c, e, key)
         }
@@ -149,7 +150,7 @@ pub fn collect<'a>(
         list: l,
         key: turns::inner::no_key(),
     };
-    let answer = loop {
+    let answer = 'steps: loop {
         let m = step(base, number, t, h, 157, count, c);
         reads += m.reads;
         match m.kind {

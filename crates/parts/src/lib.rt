@@ -3,20 +3,13 @@
 
 pub mod inner;
 
-ghost use Rattle.parts.specs.Parts.{listing, told_ended, parts_of, blank_parts, Collects};
+ghost use Rattle.fields.specs.Answer.{told};
+ghost use Rattle.parts.specs.Parts.{listing, parts_of, blank_parts, Collects};
 ghost use Rattle.std.specs.Prelude.{[]};
 
-use fields::{Opened, RecordNumber, Refusal};
+use fields::{RecordNumber, Refusal};
 use part::Part;
-use table::Tested;
 use turns::{Key, Rest};
-
-// How a list of parts ends: whole, or by a refusal.
-#[derive(Clone, Copy)]
-pub enum Ended {
-    Whole,
-    Refused(Refusal),
-}
 
 // Where the parts stand: the rest of the list, and the key that its first entry told, if it was read.
 #[derive(Clone, Copy)]
@@ -25,11 +18,11 @@ pub struct Cursor {
     pub key: Key,
 }
 
-// What one step of the parts says.
+// What one step of the parts says: the next part, or that the parts end, whole or by a refusal.
 #[derive(Clone, Copy)]
 pub enum PartKind {
     Lists(Part),
-    Stops(Ended),
+    Stops(Result<(), Refusal>),
 }
 
 // It, with where the next step begins and what was read.
@@ -40,19 +33,19 @@ pub struct PartTurn {
     pub reads: u64,
 }
 
-// Up to 157 parts by value, as many as a list of 4,096 bytes can have entries: how many there are, how they end, and what was read.
+// Up to 157 parts by value, as many as a list of 4,096 bytes can have entries: how many there are, whether they are whole, and what was read.
 // The rest of the array is blank.
 #[derive(Clone, Copy)]
 pub struct Collected {
     pub parts: [Part; 157],
     pub count: usize,
-    pub answer: Ended,
+    pub answer: Result<(), Refusal>,
     pub reads: u64,
 }
 
 #[tactic(auto, unfolding(crate::specs::Parts::filled, crate::specs::Parts::blank_parts))]
-fn none(answer: Ended) -> Collected
-    ensures { Collects (listing [] (told_ended answer) 0) blank_parts result }
+fn none(answer: Result<(), Refusal>) -> Collected
+    ensures { Collects (listing [] (told answer) 0) blank_parts result }
 {
     Collected {
         parts: [inner::blank(); 157],
@@ -68,14 +61,14 @@ pub fn collect<'a>(base: &'a [u8], number: RecordNumber, t: &'a [u8], l: Rest) -
     ensures { Collects (parts_of base.now number t.now 157 l) blank_parts result }
 {
     match table::opening(base, number, t) {
-        Tested::Refused(r) => none(Ended::Refused(r)),
-        Tested::Sound(h) => match items::inside(base, number, l) {
-            Opened::Refused(r) => none(Ended::Refused(r)),
-            Opened::Passed => {
+        Err(r) => none(Err(r)),
+        Ok(h) => match items::inside(base, number, l) {
+            Err(r) => none(Err(r)),
+            Ok(()) => {
                 if l.is {
                     return inner::collect(base, number, t, h, l);
                 }
-                none(Ended::Whole)
+                none(Ok(()))
             }
         },
     }

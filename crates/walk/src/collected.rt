@@ -1,7 +1,7 @@
 // The calls of the layers `parts` and `lent`, and their answers as lines of words and decimal numbers.
-use fields::RecordNumber;
+use fields::{RecordNumber, Refusal};
 use part::Part;
-use parts::{Collected, Ended};
+use parts::Collected;
 use std::io;
 use std::io::Write;
 use turns::Rest;
@@ -38,10 +38,10 @@ fn put_parts(out: &mut impl Write, parts: &[Part], count: usize) -> io::Result<u
     Ok(parts.len())
 }
 
-fn put_ended(out: &mut impl Write, a: Ended) -> io::Result<()> {
+fn put_ended(out: &mut impl Write, a: Result<(), Refusal>) -> io::Result<()> {
     match a {
-        Ended::Whole => say(out, "whole", b' '),
-        Ended::Refused(r) => tell_refused(out, r, b' '),
+        Ok(()) => say(out, "whole", b' '),
+        Err(r) => tell_refused(out, r, b' '),
     }
 }
 

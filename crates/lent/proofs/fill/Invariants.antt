@@ -4,9 +4,9 @@ use Rattle.parts.proofs.Fills.{Filling}
 use Rattle.lent.proofs.fill.Given as goal
 
 -- the parts listed so far stand in front, and the rest of the list follows from the cursor on
-abbrev pub invariant-loop-a : goal.invariant-loop-a
-invariant-loop-a l =
+abbrev pub invariant-steps : goal.invariant-steps
+invariant-steps l =
     Filling l.base l.number (record_of l.t) (length l.fn.list) l.fn.l l.fn.list l.list l.count l.reads l.c
 
-abbrev pub decreases-loop-a : goal.decreases-loop-a
-decreases-loop-a l = l.c.list.to - l.c.list.from
+abbrev pub decreases-steps : goal.decreases-steps
+decreases-steps l = l.c.list.to - l.c.list.from
