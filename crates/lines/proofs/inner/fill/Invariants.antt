@@ -1,4 +1,4 @@
-use Rattle.std.proofs.Common.{◌≡◌, length}
+use Rattle.std.proofs.Common.{length}
 use Rattle.lines.specs.Making.{Sound, to_come}
 use Rattle.lines.proofs.Filled.{Filling}
 use Rattle.lines.proofs.inner.fill.Given as goal
@@ -7,7 +7,6 @@ use Rattle.lines.proofs.inner.fill.Given as goal
 abbrev pub invariant-loop-out : goal.invariant-loop-out
 invariant-loop-out l = record {
   sound : Sound l.t l.here;
-  numbers : length l.numbers ≡ length l.initial.numbers;
   filling : Filling (to_come l.t l.fn.m l.fn.numbers) l.fn.out l.out l.at (to_come l.t l.here l.numbers);
 }
 
