@@ -1,6 +1,5 @@
-use Rattle.std.proofs.Common.{refl, sym, ap, length}
+use Rattle.std.proofs.Common.{sym, ap, length}
 use Rattle.std.proofs.lemmas.Bool.{lt-ltb, le-ltb}
-use Rattle.fields.proofs.Cases.{yes, no}
 use Rattle.lines.specs.Listing.{checked_lines, listing_of, table_refused}
 use Rattle.lines.proofs.Tellings.{tells_of, refused_told}
 use Rattle.lines.proofs.inner.first_line.Goals as goal
