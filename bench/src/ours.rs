@@ -1,4 +1,4 @@
-//! The proved listing, linked from the archive that `rt staticlib cabi` writes.
+//! The proved listing, linked from the archive that `rt lib` writes in crates/cabi.
 
 #[repr(C)]
 struct Filled {

@@ -37,5 +37,5 @@ fn tell_answer(out: &mut impl Write, q: &Question<'_>) -> io::Result<()> {
 
 // Whether all could be written is not asked: what is missing is missed by the test.
 fn main(rt: HostRuntime) {
-    let _ = words::answer_all(&rt, |q, out| tell_answer(out, q));
+    let _ = words::inner::answer_all(&rt, |q, out| tell_answer(out, q));
 }

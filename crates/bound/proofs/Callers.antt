@@ -83,7 +83,7 @@ module _ (s : List ℕ) (n : RecordNumber) (t : List ℕ) where
     unfolding fresh_of
     fresh-lies = no-list-lies s
 
-    -- behind the opening checks it is the count of the third demand
+    -- behind the opening checks it is the count of the whole listing
     pub calls-counted : (h : TableHeader) → open_table s n t ≡ gives h → (c : ℕ) → Calls s n t room (fresh_of s) c
         → c ≡ count_of s n (record_of t) room
     unfolding count_of

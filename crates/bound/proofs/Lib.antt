@@ -1,4 +1,4 @@
--- The third demand over the definitions: what a whole listing reads, told by its trail, and its bound.
+-- What a whole listing reads, told by its trail, and its bound.
 pub mod Value
 pub mod Facts
 pub mod Keys

@@ -1,4 +1,4 @@
--- The count that a listing prints in its last line is that of the third demand, and so at most a + 3e + 2ea.
+-- The count that a listing prints in its last line is that of the whole listing, and so at most a + 3e + 2ea.
 use Prim.Native.Nat.{ℕ, zero, suc, ◌<◌, zero-le}
 use mathlib.Core.Path.{◌≡◌, refl}
 use mathlib.Core.Logic.{inl, inr}

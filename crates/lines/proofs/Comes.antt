@@ -1,5 +1,5 @@
 -- What is still to come of a listing, call by call: each call of the walk gives its lines, more calls change nothing, and part lines come from the numbers.
-use Prim.Native.Nat.{ℕ, zero, suc, ◌+◌, ◌-◌, ◌*◌, ◌<◌}
+use Prim.Native.Nat.{ℕ, zero, suc, ◌+◌, ◌*◌, ◌<◌}
 use native.Mathlib.Omega.{arith}
 use native.Mathlib.Nat.{not-suc-le-zero}
 use mathlib.Core.Path.{◌≡◌, refl, sym, ap, ◌∙◌, subst}

@@ -4,11 +4,10 @@ use native.Mathlib.Omega.{arith}
 use mathlib.Core.Path.{◌≡◌, refl, sym, ap, ◌∙◌, subst}
 use mathlib.Core.Bool.{true, false}
 use mathlib.Core.List.{List, [], ◌∷◌, ◌++◌, map, append-nil}
-use Rattle.std.specs.Prelude.{None, Some}
+use mathlib.Core.Option.{none, some}
 use lib.Dec.{eqb}
 use lib.ListN.{length, take, drop}
 use lib.Seq.{drop-drop}
-use Rattle.fields.specs.Pick.{pick}
 use Rattle.fields.specs.Answer.{Answer, gives, ends, refuses}
 use Rattle.fields.specs.Open.{open_in}
 use Rattle.fields.specs.declared.RecordNumber.{RecordNumber}
@@ -19,7 +18,7 @@ use Rattle.table.specs.Held.{record_at, record_of, held_at, base_row, base_of}
 use Rattle.table.specs.Layout.{row_at}
 use Rattle.table.specs.declared.TableHeader.{TableHeader}
 use Rattle.table.proofs.Sound as tables
-use Rattle.table.proofs.Holds.{base-held, None-Some, the-Some}
+use Rattle.table.proofs.Holds.{base-held, none-some, the-some}
 use Rattle.turns.specs.State.{Lies, Ready, state, no_list, no_key}
 use Rattle.items.specs.Start.{fresh_of}
 use Rattle.items.specs.Items.{Left, most_reads, next_in, told_next}
@@ -34,7 +33,7 @@ use Rattle.text.specs.Put.{Put}
 use Rattle.line.specs.Lines.{Text, record_line, part_line_of, part_line, refused_line}
 use Rattle.lines.specs.Listing.{walk_lines, opened_lines, base_lines}
 use Rattle.gather.specs.Gather.{item_line, parts_for, Gathers}
-use Rattle.lines.specs.Making.{base_bytes, base_number, Based, part_lines_of, parts_to_come, to_come_at, to_come, Going, SoundAt, Sound, Tells, ending, showing, no_numbers, stage_of, beginning}
+use Rattle.lines.specs.Making.{base_bytes, base_number, Based, part_lines_of, parts_to_come, to_come_at, to_come, Going, Sound, Tells, ending, showing, no_numbers, stage_of, beginning}
 use Rattle.line.specs.declared.Gathered.{Gathered}
 use Rattle.lines.specs.declared.Making.{Making}
 use Rattle.lines.specs.declared.Stage.{Stage}
@@ -52,15 +51,15 @@ tells {before} {after} r line m b p = record {
 }
 
 -- the last line
-pub last-told : {before : List Text} {d e : List ℕ} {at end : ℕ} (t ns : List ℕ) (h : TableHeader) (w : State) (line : Text) (r : Told) → r ≡ ending h w end
-    → before ≡ line ∷ [] → Put d at e end line 256 → Tells before (to_come t r.next ns) d at e r × Sound t r.next
+pub last_told : {before : List Text} {d e : List ℕ} {at end : ℕ} (t ns : List ℕ) (h : TableHeader) (w : State) (line : Text) (r : Told) → r ≡ ending h w end
+    → before ≡ line ∷ [] → Put d at e end line 256 → Tells before (to_come t r.next ns) d at e r
 unfolding to_come to_come_at
-last-told {before} {d} {e} {at} {end} t ns h w line r q b p =
-    subst (λ (x : Told). Tells before (to_come t x.next ns) d at e x × Sound t x.next) (sym q) (tells (ending h w end) line refl b p, tt)
+last_told {before} {d} {e} {at} {end} t ns h w line r q b p =
+    subst (λ (x : Told). Tells before (to_come t x.next ns) d at e x) (sym q) (tells (ending h w end) line refl b p)
 
 -- the base record of a table is as small as every record
-pub base-small : (t : List ℕ) (h : TableHeader) → table_of t ≡ gives h → h.base < h.count → length (base_bytes t h) ≤ 4096
-base-small t h e l =
+pub base_small : (t : List ℕ) (h : TableHeader) → table_of t ≡ gives h → h.base < h.count → length (base_bytes t h) ≤ 4096
+base_small t h e l =
     let s = tables.sound t h e in
     let m = s.sized.most in
     let q = tables.record-length s h.base l in
@@ -84,7 +83,7 @@ module _ (t : List ℕ) (m : Making) (going : Going t m) where
   number = base_number t m.h
 
   pub small : length base ≤ 4096
-  small = base-small t m.h going.table going.based
+  small = base_small t m.h going.table going.based
 
   module _ (r : Walked) (a : ItemStep) (i : Item) (e : told_next r ≡ next_in base number (record_of t) m.walk) (f : r.answer ≡ a) (g : told_item a ≡ gives i) where
     pub item-inside : Lies (length base) i.rest
@@ -129,9 +128,6 @@ module _ (t : List ℕ) (m : Making) (going : Going t m) where
       ∙ ap (λ (x : List ℕ). part_line_of (take 5 (drop (5 * m.shown) ns)) ∷ (part_lines_of (m.count - (m.shown + 1)) x ++ walk_lines base number (record_of t) m.reads m.walk))
       (drop-drop 5 (5 * m.shown) ns ∙ ap (λ (x : ℕ). drop x ns) j)
 
-  pub part_sound : (end : ℕ) → Going t (showing m end).next
-  part_sound end = record { table = going.table; based = going.based; lies = going.lies; few = going.few; fits = going.fits }
-
   -- no part is left
   pub walk-comes : (ns : List ℕ) → m.count ≤ m.shown → to_come_at t m ns stage.Items ≡ walk_lines base number (record_of t) m.reads m.walk
   unfolding to_come_at parts_to_come part_lines_of
@@ -140,9 +136,9 @@ module _ (t : List ℕ) (m : Making) (going : Going t m) where
       ap (λ (x : ℕ). part_lines_of x (drop (5 * m.shown) ns) ++ walk_lines base number (record_of t) m.reads m.walk) k
 
 -- the base row's own index
-base-is : (h : TableHeader) (i : ℕ) → base_row h ≡ Some i → h.base ≡ i
+base-is : (h : TableHeader) (i : ℕ) → base_row h ≡ some i → h.base ≡ i
 unfolding base_row
-base-is h i e = the-Some (not_first (eqb h.base h.count) None (Some h.base) (Some i) e None-Some).1
+base-is h i e = the-some (not_first (eqb h.base h.count) none (some h.base) (some i) e none-some).1
 
 -- the first line of a base record
 begun-comes : (t : List ℕ) (h : TableHeader) (ns : List ℕ) (end : ℕ) (a : Answer Unit)
@@ -156,12 +152,12 @@ begun-sound : (t : List ℕ) (h : TableHeader) (end : ℕ) (a : Answer Unit) →
 unfolding stage_of fresh_of
 begun-sound t h end (gives u) e l =
     let z = no-list-lies (base_bytes t h) in
-    let q = measure-small (base_bytes t h) (fresh_of (base_bytes t h)) (base-small t h e l) z in
+    let q = measure-small (base_bytes t h) (fresh_of (base_bytes t h)) (base_small t h e l) z in
     record { table = e; based = l; lies = z; few = omega arith; fits = omega arith }
 begun-sound t h end ends e l = tt
 begun-sound t h end (refuses r) e l = tt
 
-pub record-told : {d e : List ℕ} {at : ℕ} (t : List ℕ) (h : TableHeader) (i : ℕ) (r : Told) → table_of t ≡ gives h → base_row h ≡ Some i
+pub record-told : {d e : List ℕ} {at : ℕ} (t : List ℕ) (h : TableHeader) (i : ℕ) (r : Told) → table_of t ≡ gives h → base_row h ≡ some i
     → Put d at e r.end (record_line (row_at t h i).number (length (record_at t h i))) 256
     → r ≡ beginning h (record_at t h i) (open_in (record_at t h i) (row_at t h i).number h.size) r.end
     → ((ns : List ℕ) → Tells (base_lines t h (base_of t)) (to_come t r.next ns) d at e r) × Sound t r.next
@@ -179,10 +175,6 @@ record-told {d} {e} {at} t h i r q b p z =
       subst (λ (k : Told). Sound t k.next) (sym (z ∙ y)) (begun-sound t h r.end a q (let l = w.0 in omega arith)),
     )
 
--- a put, told by the end that a call gave
-pub put-at : {d e line : List ℕ} {at end n : ℕ} (r : Told) → r.end ≡ end → Put d at e end line n → Put d at e r.end line n
-put-at {d} {e} {line} {at} {end} {n} r q p = subst (λ (k : ℕ). Put d at e k line n) (sym q) p
-
 -- the same of a record and a number that are the base row's
 module _ (t : List ℕ) (m : Making) (s : List ℕ) (n : RecordNumber) (based : Based t m.h s n) (going : Going t m) where
   abbrev Of : (List ℕ → RecordNumber → Type 0) → Type 0
@@ -191,22 +183,19 @@ module _ (t : List ℕ) (m : Making) (s : List ℕ) (n : RecordNumber) (based : 
   of-base : (P : List ℕ → RecordNumber → Type 0) → Of P
   of-base P h = subst (λ (x : List ℕ). P x n) (sym based.bytes) (subst (P (base_bytes t m.h)) (sym based.number) h)
 
-  pub based-ready : Ready s t m.h × Lies (length s) m.walk.list
-  based-ready = of-base (λ x k. Ready x t m.h × Lies (length x) m.walk.list) (record { sound = going.table; small = small t m going }, going.lies)
+  pub based_ready : Ready s t m.h
+  based_ready = of-base (λ x k. Ready x t m.h) (record { sound = going.table; small = small t m going })
 
   module _ (r : Walked) (a : ItemStep) (i : Item) (e : told_next r ≡ next_in s n (record_of t) m.walk) (f : r.answer ≡ a) (g : told_item a ≡ gives i) where
-    pub based-item : {R : Type 0} → R → Ready s t m.h × (Lies (length s) i.rest × R)
-    based-item {R} x = (
-      based-ready.0,
-      (of-base (λ y k. told_next r ≡ next_in y k (record_of t) m.walk → Lies (length y) i.rest) (λ z. item-inside t m going r a i z f g) e, x),
-    )
+    pub based_item : Lies (length s) i.rest
+    based_item = of-base (λ y k. told_next r ≡ next_in y k (record_of t) m.walk → Lies (length y) i.rest) (λ z. item-inside t m going r a i z f g) e
 
     module _ (p : Gathered) (ns : List ℕ) (w : Gathers (parts_for s n (record_of t) i) ns p) (x : r.reads ≤ most_reads) (y : p.reads ≤ 1052929) (z : p.count ≤ 157) where
       abbrev After : Making
       After = onwards m.h r.left (m.reads + r.reads + p.reads) p.count
 
-      pub based-comes : (walk_lines s n (record_of t) m.reads m.walk ≡ item_line s n (record_of t) i ∷ to_come t After ns) × Going t After
-      based-comes = (
+      pub based_comes : (walk_lines s n (record_of t) m.reads m.walk ≡ item_line s n (record_of t) i ∷ to_come t After ns) × Going t After
+      based_comes = (
         of-base
             (λ b k. told_next r ≡ next_in b k (record_of t) m.walk → Gathers (parts_for b k (record_of t) i) ns p
             → walk_lines b k (record_of t) m.reads m.walk ≡ item_line b k (record_of t) i ∷ to_come t After ns)
@@ -215,53 +204,45 @@ module _ (t : List ℕ) (m : Making) (s : List ℕ) (n : RecordNumber) (based : 
       )
 
 -- one part's line, told
-pub shown-told : {d e : List ℕ} {at : ℕ} (t : List ℕ) (m : Making) (going : Going t m) (ns ns' : List ℕ) (r : Told) → m.shown < m.count
+pub shown_told : {d e : List ℕ} {at : ℕ} (t : List ℕ) (m : Making) (going : Going t m) (ns ns' : List ℕ) (r : Told) → m.shown < m.count
     → Put d at e r.end (part_line_of (take 5 (drop (5 * m.shown) ns))) 256 → ns' ≡ ns → r ≡ showing m r.end
-    → Tells (to_come_at t m ns stage.Items) (to_come t r.next ns') d at e r × (Sound t r.next × (length ns' ≡ length ns))
-shown-told {d} {e} {at} t m going ns ns' r l p q z = (
-  tells r (part_line_of (take 5 (drop (5 * m.shown) ns))) (ap (λ (k : Told). k.more) z)
-      (part-comes t m going ns r.end l
-      ∙ ap (λ (k : List Text). part_line_of (take 5 (drop (5 * m.shown) ns)) ∷ k) (ap (λ (k : Told). to_come t k.next ns) (sym z) ∙ ap (to_come t r.next) (sym q))) p,
-  (subst (λ (k : Told). Sound t k.next) (sym z) (part_sound t m going r.end), ap length q),
-)
+    → Tells (to_come_at t m ns stage.Items) (to_come t r.next ns') d at e r
+shown_told t m going ns ns' r l p q z =
+    tells r (part_line_of (take 5 (drop (5 * m.shown) ns))) (ap (λ (k : Told). k.more) z)
+    (part-comes t m going ns r.end l
+    ∙ ap (λ (k : List Text). part_line_of (take 5 (drop (5 * m.shown) ns)) ∷ k) (ap (λ (k : Told). to_come t k.next ns) (sym z) ∙ ap (to_come t r.next) (sym q))) p
 
 -- the walk's line, told
-pub walked-told : (t : List ℕ) (m : Making) (going : Going t m) (ns : List ℕ) {after : List Text} {d e : List ℕ} {at : ℕ} {r : Told} (s : List ℕ) (n : RecordNumber) → m.count ≤ m.shown
+pub walked_told : (t : List ℕ) (m : Making) (going : Going t m) (ns : List ℕ) {after : List Text} {d e : List ℕ} {at : ℕ} {r : Told} (s : List ℕ) (n : RecordNumber) → m.count ≤ m.shown
     → s ≡ base_bytes t m.h → n ≡ base_number t m.h → Tells (walk_lines s n (record_of t) m.reads m.walk) after d at e r → Tells (to_come_at t m ns stage.Items) after d at e r
-walked-told t m going ns {after} {d} {e} {at} {r} s n l a b w =
+walked_told t m going ns {after} {d} {e} {at} {r} s n l a b w =
     let q : walk_lines s n (record_of t) m.reads m.walk ≡ to_come_at t m ns stage.Items =
     ap (λ (x : List ℕ). walk_lines x n (record_of t) m.reads m.walk) a ∙ ap (λ (k : RecordNumber). walk_lines (base_bytes t m.h) k (record_of t) m.reads m.walk) b
     ∙ sym (walk-comes t m going ns l) in
     subst (λ (x : List Text). Tells x after d at e r) q w
 
 -- the same lines by another name
-pub tells-of : {x y after : List Text} {d e : List ℕ} {at : ℕ} {r : Told} → x ≡ y → Tells x after d at e r → Tells y after d at e r
-tells-of {after = after} {d} {e} {at} {r} q w = subst (λ (z : List Text). Tells z after d at e r) q w
+pub tells_of : {x y after : List Text} {d e : List ℕ} {at : ℕ} {r : Told} → x ≡ y → Tells x after d at e r → Tells y after d at e r
+tells_of {after = after} {d} {e} {at} {r} q w = subst (λ (z : List Text). Tells z after d at e r) q w
 
 -- the line of a table that is refused
-pub refused-told : {before : List Text} {d e : List ℕ} {at : ℕ} (t : List ℕ) (r : Told) → before ≡ refused_line ∷ [] → Put d at e r.end refused_line 256
-    → r ≡ ending no_numbers (state 0 no_list no_key) r.end → ((ns : List ℕ) → Tells before (to_come t r.next ns) d at e r) × Sound t r.next
-refused-told t r b p z = (
-  λ ns. (last-told t ns no_numbers (state 0 no_list no_key) refused_line r z b p).0,
-  (last-told t [] no_numbers (state 0 no_list no_key) refused_line r z b p).1,
-)
+pub refused_told : {before : List Text} {d e : List ℕ} {at : ℕ} (t ns : List ℕ) (r : Told) → before ≡ refused_line ∷ [] → Put d at e r.end refused_line 256
+    → r ≡ ending no_numbers (state 0 no_list no_key) r.end → Tells before (to_come t r.next ns) d at e r
+refused_told t ns r b p z = last_told t ns no_numbers (state 0 no_list no_key) refused_line r z b p
 
-pub record-told-of : {d e : List ℕ} {at : ℕ} (t : List ℕ) (h : TableHeader) (i : ℕ) (r : Told) (s : List ℕ) (n : RecordNumber) → table_of t ≡ gives h → base_row h ≡ Some i
+pub record_told_of : {d e : List ℕ} {at : ℕ} (t : List ℕ) (h : TableHeader) (i : ℕ) (r : Told) (s : List ℕ) (n : RecordNumber) → table_of t ≡ gives h → base_row h ≡ some i
     → s ≡ record_at t h i → n ≡ (row_at t h i).number → Put d at e r.end (record_line n (length s)) 256 → r ≡ beginning h s (open_in s n h.size) r.end
     → ((ns : List ℕ) → Tells (base_lines t h (base_of t)) (to_come t r.next ns) d at e r) × Sound t r.next
-record-told-of {d} {e} {at} t h i r s n q b u v p z =
+record_told_of {d} {e} {at} t h i r s n q b u v p z =
     record-told t h i r q b
     (subst (λ (x : List ℕ). Put d at e r.end (record_line (row_at t h i).number (length x)) 256) u (subst (λ (k : RecordNumber). Put d at e r.end (record_line k (length s)) 256) v p))
     (z ∙ ap (λ (x : List ℕ). beginning h x (open_in x n h.size) r.end) u ∙ ap (λ (k : RecordNumber). beginning h (record_at t h i) (open_in (record_at t h i) k h.size) r.end) v)
 
 -- what is to come, by the stage that a match found
-pub come-at : (t : List ℕ) (m : Making) (ns : List ℕ) {g : Stage} → m.stage ≡ g → to_come_at t m ns g ≡ to_come t m ns
+pub come_at : (t : List ℕ) (m : Making) (ns : List ℕ) {g : Stage} → m.stage ≡ g → to_come_at t m ns g ≡ to_come t m ns
 unfolding to_come
-come-at t m ns e = ap (to_come_at t m ns) (sym e)
-
-pub sound-at : (t : List ℕ) (m : Making) {g : Stage} → m.stage ≡ g → Sound t m → SoundAt t m g
-sound-at t m e h = subst (SoundAt t m) e h
+come_at t m ns e = ap (to_come_at t m ns) (sym e)
 
 -- nothing was to come
-pub nothing-told : {after : List Text} {d : List ℕ} {at : ℕ} {before : List Text} (m : Making) → before ≡ [] → after ≡ [] → Tells before after d at d (record { next = m; end = at; more = false })
-nothing-told {after} {d} {at} m b a = record { line = []; told = b; put = record { is = sym (append-nil (take at d)); long = refl; least = omega arith; most = omega arith; tail = refl }; still = λ f. (refl, a) }
+pub nothing_told : {after : List Text} {d : List ℕ} {at : ℕ} {before : List Text} (m : Making) → before ≡ [] → after ≡ [] → Tells before after d at d (record { next = m; end = at; more = false })
+nothing_told {after} {d} {at} m b a = record { line = []; told = b; put = record { is = sym (append-nil (take at d)); long = refl; least = omega arith; most = omega arith; tail = refl }; still = λ f. (refl, a) }

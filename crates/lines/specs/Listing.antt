@@ -11,7 +11,6 @@ use Rattle.items.specs.Start.{fresh_of}
 use Rattle.items.specs.Items.{Left, measure, next_in}
 use Rattle.turns.specs.declared.State.{State}
 use Rattle.turns.specs.declared.Item.{Item}
-use Rattle.parts.specs.Parts as parts
 use Rattle.line.specs.Lines.{Text, record_line, part_line, end_line, stopped_line, refused_line}
 use Rattle.gather.specs.Gather.{parts_for, item_line}
 

@@ -21,17 +21,15 @@ use turns::{ItemStep, State};
 fn done(h: TableHeader, w: State, end: usize) -> Told
     ensures { result ≡ ending h w end }
 {
-    let stage = Stage::Done;
-    let next = Making {
-        stage,
-        h,
-        walk: w,
-        reads: 0,
-        shown: 0,
-        count: 0,
-    };
     Told {
-        next,
+        next: Making {
+            stage: Stage::Done,
+            h,
+            walk: w,
+            reads: 0,
+            shown: 0,
+            count: 0,
+        },
         end,
         more: true,
     }
@@ -49,38 +47,34 @@ fn walk_line<'a>(
 ) -> Told
     requires based { Based t.now m.h base.now number }
     requires going { Going t.now m }
-    requires in_bounds { (785 ≤ length numbers.old) × (at + 256 ≤ length out.old) }
+    requires numbers_room { 785 ≤ length numbers.old }
+    requires line_room { at + 256 ≤ length out.old }
     ensures told { Tells (walk_lines base.now number (record_of t.now) m.reads m.walk) (to_come t.now result.next numbers.new) out.old at out.new result }
-    ensures sound { Sound t.now result.next × (length numbers.new ≡ length numbers.old) }
+    ensures sound { Sound t.now result.next }
+    ensures numbers_len_unchanged { length numbers.new ≡ length numbers.old }
 {
-    let h = m.h;
-    let n = items::inner::next(base, number, t, h, m.walk);
+    let n = items::inner::next(base, number, t, m.h, m.walk);
     let reads = m.reads + n.reads;
-    let walk = n.left;
-    let a = n.answer;
-    match a {
+    match n.answer {
         ItemStep::End => {
             let end = line::inner::end_line(out, at, reads);
-            done(h, walk, end)
+            done(m.h, n.left, end)
         }
         ItemStep::Refused(r) => {
             let end = line::inner::stopped_line(out, at, r.number, reads);
-            done(h, walk, end)
+            done(m.h, n.left, end)
         }
         ItemStep::Given(i) => {
-            let l = gather::inner::item_line(base, number, t, h, i, numbers, out, at);
-            let parts = l.parts;
-            let stage = Stage::Items;
-            let next = Making {
-                stage,
-                h,
-                walk,
-                reads: reads + parts.reads,
-                shown: 0,
-                count: parts.count,
-            };
+            let l = gather::inner::item_line(base, number, t, m.h, i, numbers, out, at);
             Told {
-                next,
+                next: Making {
+                    stage: Stage::Items,
+                    h: m.h,
+                    walk: n.left,
+                    reads: reads + l.parts.reads,
+                    shown: 0,
+                    count: l.parts.count,
+                },
                 end: l.end,
                 more: true,
             }
@@ -90,25 +84,21 @@ fn walk_line<'a>(
 
 // The line of the next part of the item before.
 fn part_line(m: Making, numbers: &mut [u64], out: &mut [u8], at: usize) -> Told
-    requires shown_lt_count { (m.shown < m.count) × (m.count ≤ 157) }
-    requires in_bounds { (785 ≤ length numbers.old) × (at + 256 ≤ length out.old) }
+    requires shown_lt_count { m.shown < m.count }
+    requires few { m.count ≤ 157 }
+    requires numbers_room { 785 ≤ length numbers.old }
+    requires line_room { at + 256 ≤ length out.old }
     ensures put { Put out.old at out.new result.end (part_line_of (take 5 (drop (5 * m.shown) numbers.old))) 256 }
-    ensures numbers_unchanged { (numbers.new ≡ numbers.old) × (result ≡ showing m result.end) }
+    ensures numbers_unchanged { numbers.new ≡ numbers.old }
+    ensures value { result ≡ showing m result.end }
 {
     let end = line::inner::part_line(out, at, &numbers[5 * m.shown..][..5]);
-    let h = m.h;
-    let walk = m.walk;
-    let stage = Stage::Items;
-    let next = Making {
-        stage,
-        h,
-        walk,
-        reads: m.reads,
-        shown: m.shown + 1,
-        count: m.count,
-    };
     Told {
-        next,
+        next: Making {
+            stage: Stage::Items,
+            shown: m.shown + 1,
+            ..m
+        },
         end,
         more: true,
     }
@@ -117,17 +107,18 @@ fn part_line(m: Making, numbers: &mut [u64], out: &mut [u8], at: usize) -> Told
 // Among its items: a part's line as long as there is one to come, then the walk goes on.
 fn items_line<'a>(t: &'a [u8], m: Making, numbers: &mut [u64], out: &mut [u8], at: usize) -> Told
     requires going { Going t.now m }
-    requires in_bounds { (785 ≤ length numbers.old) × (at + 256 ≤ length out.old) }
+    requires numbers_room { 785 ≤ length numbers.old }
+    requires line_room { at + 256 ≤ length out.old }
     ensures told { Tells (to_come_at t.now m numbers.old Items) (to_come t.now result.next numbers.new) out.old at out.new result }
-    ensures sound { Sound t.now result.next × (length numbers.new ≡ length numbers.old) }
+    ensures sound { Sound t.now result.next }
+    ensures numbers_len_unchanged { length numbers.new ≡ length numbers.old }
 {
     if m.shown < m.count {
         return part_line(m, numbers, out, at);
     }
-    let h = m.h;
-    let row = h.base as usize;
-    let base = lookup::inner::record_at(t, h, row);
-    let r = table::inner::row_at(t, h, row);
+    let row = m.h.base as usize;
+    let base = lookup::inner::record_at(t, m.h, row);
+    let r = table::inner::row_at(t, m.h, row);
     walk_line(base, r.number, t, m, numbers, out, at)
 }
 
@@ -139,9 +130,7 @@ fn refused(out: &mut [u8], at: usize) -> Told
 {
     let end = line::inner::refused_line(out, at);
     let none = crate::start();
-    let h = none.h;
-    let walk = none.walk;
-    done(h, walk, end)
+    done(none.h, none.walk, end)
 }
 
 // Whether the walk of a base record begins, or the listing stops by an opening check.
@@ -162,19 +151,16 @@ fn record_line(base: &[u8], number: RecordNumber, h: TableHeader, out: &mut [u8]
     ensures value { result ≡ beginning h base.now (open_in base.now number h.size) result.end }
 {
     let end = line::inner::record_line(out, at, number, base.len());
-    let o = fields::opening_in(base, number, h.size as usize);
-    let stage = stage_of(o);
-    let walk = items::fresh(base);
-    let next = Making {
-        stage,
-        h,
-        walk,
-        reads: 0,
-        shown: 0,
-        count: 0,
-    };
+    let stage = stage_of(fields::opening_in(base, number, h.size as usize));
     Told {
-        next,
+        next: Making {
+            stage,
+            h,
+            walk: items::fresh(base),
+            reads: 0,
+            shown: 0,
+            count: 0,
+        },
         end,
         more: true,
     }
@@ -182,13 +168,12 @@ fn record_line(base: &[u8], number: RecordNumber, h: TableHeader, out: &mut [u8]
 
 // The first line of a table that passed its check.
 fn based_line<'a>(t: &'a [u8], h: TableHeader, out: &mut [u8], at: usize) -> Told
-    requires t_value { table_of t.now ≡ gives h }
-    requires at_in_bounds { at + 256 ≤ length out.old }
+    requires checked { table_of t.now ≡ gives h }
+    requires line_room { at + 256 ≤ length out.old }
     ensures told { (ns : List ℕ) → Tells (base_lines t.now h (base_of t.now)) (to_come t.now result.next ns) out.old at out.new result }
     ensures sound { Sound t.now result.next }
 {
-    let b = table::base_row(h);
-    match b {
+    match table::base_row(h) {
         RowFound::Missing => refused(out, at),
         RowFound::At(i) => {
             let base = lookup::inner::record_at(t, h, i);
@@ -207,8 +192,7 @@ fn first_line<'a>(t: &'a [u8], out: &mut [u8], at: usize) -> Told
     if 65536 < t.len() {
         return refused(out, at);
     }
-    let a = table::check(t);
-    match a {
+    match table::check(t) {
         Tested::Refused(_) => refused(out, at),
         Tested::Sound(h) => based_line(t, h, out, at),
     }
@@ -216,20 +200,19 @@ fn first_line<'a>(t: &'a [u8], out: &mut [u8], at: usize) -> Told
 
 // One line: it is put behind the text so far. The numbers are lent for the parts of an item, from one call to the next.
 pub fn next<'a>(t: &'a [u8], m: Making, numbers: &mut [u64], out: &mut [u8], at: usize) -> Told
-    requires sound_2 { Sound t.now m }
-    requires in_bounds { (785 ≤ length numbers.old) × (at + 256 ≤ length out.old) }
+    requires stands { Sound t.now m }
+    requires numbers_room { 785 ≤ length numbers.old }
+    requires line_room { at + 256 ≤ length out.old }
     ensures told { Tells (to_come t.now m numbers.old) (to_come t.now result.next numbers.new) out.old at out.new result }
-    ensures sound { Sound t.now result.next × (length numbers.new ≡ length numbers.old) }
+    ensures sound { Sound t.now result.next }
+    ensures numbers_len_unchanged { length numbers.new ≡ length numbers.old }
 {
-    let stage = m.stage;
-    match stage {
+    match m.stage {
         Stage::Start => first_line(t, out, at),
         Stage::Items => items_line(t, m, numbers, out, at),
         Stage::Stopped(n) => {
-            let h = m.h;
-            let walk = m.walk;
             let end = line::inner::stopped_line(out, at, n, m.reads);
-            done(h, walk, end)
+            done(m.h, m.walk, end)
         }
         Stage::Done => Told {
             next: m,
@@ -244,39 +227,30 @@ pub fn next<'a>(t: &'a [u8], m: Making, numbers: &mut [u64], out: &mut [u8], at:
 fn is_more(m: Making) -> bool
     ensures { result ≡ any_at m.stage }
 {
-    let stage = m.stage;
-    match stage {
-        Stage::Start => true,
-        Stage::Items => true,
-        Stage::Stopped(_) => true,
-        Stage::Done => false,
-    }
+    !matches!(m.stage, Stage::Done)
 }
 
 // Line after line from the front of a buffer, as long as there is room for the longest; `more` says that there are lines to come.
 pub fn fill<'a>(t: &'a [u8], m: Making, numbers: &mut [u64], out: &mut [u8]) -> Told
-    requires sound_2 { Sound t.now m }
-    requires in_bounds { 785 ≤ length numbers.old }
+    requires stands { Sound t.now m }
+    requires numbers_room { 785 ≤ length numbers.old }
     ensures told { Pages (page_of (length out.old) (to_come t.now m numbers.old)) (to_come t.now result.next numbers.new) out.old out.new result }
-    ensures sound { Sound t.now result.next × (length numbers.new ≡ length numbers.old) }
+    ensures sound { Sound t.now result.next }
+    ensures numbers_len_unchanged { length numbers.new ≡ length numbers.old }
 {
     let mut here = m;
     let mut at: usize = 0;
-    loop {
-        if out.len() - at < 256 {
-            let more = is_more(here);
-            return Told {
-                next: here,
-                end: at,
-                more,
-            };
-        }
+    while 256 <= out.len() - at {
         let r = next(t, here, numbers, out, at);
-        if r.more {
-            here = r.next;
-            at = r.end;
-        } else {
+        if !r.more {
             return r;
         }
+        here = r.next;
+        at = r.end;
+    }
+    Told {
+        next: here,
+        end: at,
+        more: is_more(here),
     }
 }

@@ -44,23 +44,20 @@ pub struct Told {
 pub fn start() -> Making
     ensures { result ≡ starting }
 {
-    let stage = Stage::Start;
-    let h = TableHeader {
-        count: 0,
-        size: 0,
-        directory: 0,
-        records: 0,
-        base: 0,
-    };
-    let walk = State {
-        raw: 0,
-        list: turns::inner::no_list(),
-        key: turns::inner::no_key(),
-    };
     Making {
-        stage,
-        h,
-        walk,
+        stage: Stage::Start,
+        h: TableHeader {
+            count: 0,
+            size: 0,
+            directory: 0,
+            records: 0,
+            base: 0,
+        },
+        walk: State {
+            raw: 0,
+            list: turns::inner::no_list(),
+            key: turns::inner::no_key(),
+        },
         reads: 0,
         shown: 0,
         count: 0,
@@ -79,8 +76,7 @@ pub fn list<'a>(t: &'a [u8], out: &mut [u8]) -> Listed
     ensures { Lists (page_of (length out.old) (listing_of t.now)) out.old out.new result }
 {
     let mut numbers = [0u64; 785];
-    let m = start();
-    let r = inner::fill(t, m, &mut numbers, out);
+    let r = inner::fill(t, start(), &mut numbers, out);
     Listed {
         end: r.end,
         more: r.more,

@@ -5,14 +5,13 @@ use mathlib.Core.List.{List, [], ◌∷◌, ◌++◌, append_assoc, append-nil}
 use Rattle.std.specs.Prelude.{Option, Result}
 use native.Mathlib.Nat.{not-suc-le-zero, zero-add, add_assoc}
 use native.Mathlib.Omega.{arith}
-use borrow.Author.Tests.{ltb-true}
+use Rattle.std.proofs.lemmas.Bool.Decides.{nat_tests}
 use lib.ListN.{length, take, drop, set, length-set, take-append-drop, length-replicate}
 use lib.Seq.{drop-set-lt, drop-drop, length-take-le}
 use Rattle.fields.proofs.Stores.{stored}
 use Rattle.fields.specs.Answer.{Answer, gives, ends, refuses, told}
 use Rattle.fields.specs.declared.RecordNumber.{RecordNumber}
 use Rattle.fields.specs.declared.Refusal.{Refusal}
-use Rattle.fields.proofs.Cases.{not-second}
 use Rattle.list.specs.Entry.{entry_of}
 use Rattle.list.specs.declared.Entry.{Entry}
 use Rattle.list.proofs.Given as entries
@@ -20,6 +19,7 @@ use Rattle.turns.specs.State.{no_key, part_of as listPart}
 use Rattle.turns.specs.declared.Rest.{Rest}
 use Rattle.turns.proofs.Turns.{entry-inside}
 use Rattle.part.specs.Join.{key_for}
+use Rattle.part.specs.Part.{part_of}
 use Rattle.parts.specs.Parts.{Stepped, lists, stops, told_kind, told_turn, cursor, cursor_past}
 use Rattle.parts.specs.Parts.{step_after, step_part, step_joined, step_keyed, step_entered, step_in}
 use Rattle.parts.specs.Parts.{Listing, listing, parts_after, parts_run, parts_from, filled, no_part, blank_parts, Collects}
@@ -62,8 +62,9 @@ module _ (s : List ℕ) (n : RecordNumber) (look : RecordNumber → Option (List
       → step_joined s n look room k next e place j ≡ lists p d r → Goes k c d
   unfolding step_joined step_part
   joined-goes k c next d e place (gives u) p r f g =
-      let t = not-second _ _ _ _ g stops-lists in
-      f (ltb-true _ _ t.0) (after_next next d _ _ r p t.1)
+      let fits : k < room = grind (arith, nat_tests) in
+      let listed : step_part next (part_of s n look e place) ≡ lists p d r = grind (arith, nat_tests) in
+      f fits (after_next next d _ _ r p listed)
   joined-goes k c next d e place ends p r f g = absurd (stops-lists g)
   joined-goes k c next d e place (refuses q) p r f g = absurd (stops-lists g)
 

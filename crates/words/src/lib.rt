@@ -3,11 +3,13 @@
 // A program ends where the questions end, and at a question that is cut or whose bytes have no room.
 #![tactic(auto)]
 
+pub mod inner;
+
 use fields::Refusal;
 use fields::inner::{u16_at, u32_at, u64_at};
 use std::alloc::{AllocError, Global};
 use std::io;
-use std::io::{BufReader, BufWriter, ErrorKind, Printer, Read, Write};
+use std::io::{ErrorKind, Read, Write};
 
 // A question, for every call that there is: each reads what it needs. `from` and `to` are those of a list, where `listed` says that there is one, and the type and instance
 // are also those of a key, where `keyed` says so. `most` is how many calls a walk makes, or the room for parts.
@@ -63,35 +65,6 @@ pub fn read_question<'a, R: Read>(input: &mut R, space: &'a mut [u8]) -> io::Res
     input.read_exact(given)?;
     let (record, table) = given.split_at(record);
     Ok(read_head(&head, record, table))
-}
-
-// Answers one question after another. It ends by the error that the input's end is, or that of an answer that could not be written.
-fn answer_each<R: Read, W: Write, F: Fn(&Question<'_>, &mut W) -> io::Result<()>>(
-    input: &mut R,
-    space: &mut [u8],
-    out: &mut W,
-    answer: &F,
-) -> io::Result<()>
-    requires { F.IsAlwaysCallable answer.now }
-{
-    for _ in 0..u64::MAX {
-        answer(&read_question(input, space)?, out)?;
-    }
-    Ok(())
-}
-
-// Answers what comes on standard input, to standard output. Whether all could be written is not asked: what is missing is missed by the test.
-pub fn answer_all<R, F>(rt: &R, answer: F) -> io::Result<()>
-where
-    R: Input + Print + AllocGlobal,
-    F: Fn(&Question<'_>, &mut BufWriter<Printer<'_, R>>) -> io::Result<()>,
-    requires { F.IsAlwaysCallable answer }
-{
-    let mut input = BufReader::new(rt.alloc(), rt.reader())?;
-    let mut out = BufWriter::new(rt.alloc(), io::writer(rt))?;
-    let mut space = room(rt.alloc())?;
-    let _ = answer_each(&mut input, &mut space, &mut out, &answer);
-    out.flush()
 }
 
 // Writes a word, the numbers behind it, in decimal, and a last byte: a space where more of the line is to come.
