@@ -5,11 +5,11 @@ use native.Mathlib.Nat.{not-suc-le-zero}
 use mathlib.Core.Path.{◌≡◌, refl, sym, ap, ◌∙◌, subst}
 use mathlib.Core.List.{List, [], ◌∷◌, ◌++◌, map}
 use mathlib.Core.Bool.{true}
-use Rattle.std.specs.Prelude.{Option, Some, None}
+use Rattle.std.specs.Prelude.{Option, Some, None, Result}
 use lib.Dec.{ltb}
 use lib.ListN.{length, take, drop}
 use lib.Seq.{take-take, take-add, take_at, drop_at}
-use Rattle.fields.specs.Answer.{Answer, gives, ends, refuses}
+use Rattle.fields.specs.Answer.{Answer, gives, ends, refuses, told_step}
 use Rattle.fields.specs.declared.RecordNumber.{RecordNumber}
 use Rattle.fields.proofs.Cases.{both}
 use Rattle.table.specs.Check.{table_of}
@@ -17,10 +17,8 @@ use Rattle.table.specs.Held.{Held, base_of}
 use Rattle.table.specs.declared.TableHeader.{TableHeader}
 use Rattle.fields.specs.declared.Refusal.{Refusal}
 use Rattle.items.specs.Items.{Left, measure, next_in, told_next}
-use Rattle.turns.specs.Turn.{told_item}
 use Rattle.turns.specs.declared.State.{State}
 use Rattle.turns.specs.declared.Item.{Item}
-use Rattle.turns.specs.declared.ItemStep.{ItemStep}
 use Rattle.items.specs.declared.Walked.{Walked}
 use Rattle.items.proofs.Kept.{next-sinks}
 use Rattle.part.specs.declared.Part.{Part}
@@ -53,12 +51,12 @@ part-lines (p ∷ ps) ns e =
 
 module _ (s : List ℕ) (n : RecordNumber) (look : RecordNumber → Option (List ℕ)) where
   -- a call of the walk that answered with a
-  called : (k : ℕ) (w : State) (r : Walked) {t : ItemStep} → told_next r ≡ next_in s n look w → r.answer ≡ t
-      → walk_lines s n look k w ≡ lines_after s n look (lines_run s n look (measure s w)) (k + r.reads) r.left (told_item t)
+  called : (k : ℕ) (w : State) (r : Walked) {t : Result (Option Item) Refusal} → told_next r ≡ next_in s n look w → r.answer ≡ t
+      → walk_lines s n look k w ≡ lines_after s n look (lines_run s n look (measure s w)) (k + r.reads) r.left (told_step t)
   unfolding walk_lines lines_run lines_next
   called k w r e t =
       ap (λ (l : Left). lines_after s n look (lines_run s n look (measure s w)) (k + l.reads) l.left l.answer) (sym e)
-      ∙ ap (λ (x : ItemStep). lines_after s n look (lines_run s n look (measure s w)) (k + r.reads) r.left (told_item x)) t
+      ∙ ap (λ (x : Result (Option Item) Refusal). lines_after s n look (lines_run s n look (measure s w)) (k + r.reads) r.left (told_step x)) t
 
   -- more calls change nothing
   run-after : (f g k : ℕ) (w : State) (a : Answer Item) → ((i : Item) → a ≡ gives i → (k : ℕ) → lines_run s n look f k w ≡ lines_run s n look g k w)
@@ -75,23 +73,23 @@ module _ (s : List ℕ) (n : RecordNumber) (look : RecordNumber → Option (List
   enough (suc f) (suc g) k w a b =
       run-after f g _ _ (next_in s n look w).answer (λ i e j. let d = next-sinks s n look w i e in enough f g j (next_in s n look w).left (omega arith) (omega arith))
 
-  pub sinks : (w : State) (r : Walked) (i : Item) → told_next r ≡ next_in s n look w → told_item r.answer ≡ gives i → measure s r.left < measure s w
+  pub sinks : (w : State) (r : Walked) (i : Item) → told_next r ≡ next_in s n look w → told_step r.answer ≡ gives i → measure s r.left < measure s w
   sinks w r i e t = subst (λ (l : Left). l.answer ≡ gives i → measure s l.left < measure s w) (sym e) (next-sinks s n look w i) t
 
-  pub walk_ends : (k : ℕ) (w : State) (r : Walked) (t : ItemStep) → told_next r ≡ next_in s n look w → r.answer ≡ t → told_item t ≡ ends → walk_lines s n look k w ≡ end_line (k + r.reads) ∷ []
+  pub walk_ends : (k : ℕ) (w : State) (r : Walked) (t : Result (Option Item) Refusal) → told_next r ≡ next_in s n look w → r.answer ≡ t → told_step t ≡ ends → walk_lines s n look k w ≡ end_line (k + r.reads) ∷ []
   unfolding lines_after
   walk_ends k w r t e q z = called k w r e q ∙ ap (λ (a : Answer Item). lines_after s n look (lines_run s n look (measure s w)) (k + r.reads) r.left a) z
 
-  pub walk-stops : (k : ℕ) (w : State) (r : Walked) (t : ItemStep) (x : Refusal) → told_next r ≡ next_in s n look w → r.answer ≡ t → told_item t ≡ refuses x
+  pub walk-stops : (k : ℕ) (w : State) (r : Walked) (t : Result (Option Item) Refusal) (x : Refusal) → told_next r ≡ next_in s n look w → r.answer ≡ t → told_step t ≡ refuses x
       → walk_lines s n look k w ≡ stopped_line x.number (k + r.reads) ∷ []
   unfolding lines_after
   walk-stops k w r t x e q z = called k w r e q ∙ ap (λ (a : Answer Item). lines_after s n look (lines_run s n look (measure s w)) (k + r.reads) r.left a) z
 
-  pub walk-gives : (k : ℕ) (w : State) (r : Walked) (t : ItemStep) (i : Item) → told_next r ≡ next_in s n look w → r.answer ≡ t → told_item t ≡ gives i
+  pub walk-gives : (k : ℕ) (w : State) (r : Walked) (t : Result (Option Item) Refusal) (i : Item) → told_next r ≡ next_in s n look w → r.answer ≡ t → told_step t ≡ gives i
       → walk_lines s n look k w ≡ item_line s n look i ∷ (map part_line (parts_for s n look i).parts ++ walk_lines s n look (k + r.reads + (parts_for s n look i).reads) r.left)
   unfolding lines_after item_lines walk_lines
   walk-gives k w r t i e q z =
-      let d = sinks w r i e (ap told_item q ∙ z) in
+      let d = sinks w r i e (ap told_step q ∙ z) in
       called k w r e q ∙ ap (λ (a : Answer Item). lines_after s n look (lines_run s n look (measure s w)) (k + r.reads) r.left a) z
       ∙ ap (λ (x : List Text). item_line s n look i ∷ (map part_line (parts_for s n look i).parts ++ x)) (enough (measure s w) (suc (measure s r.left)) _ r.left d (omega arith))
 

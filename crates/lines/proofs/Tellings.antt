@@ -4,11 +4,12 @@ use native.Mathlib.Omega.{arith}
 use mathlib.Core.Path.{◌≡◌, refl, sym, ap, ◌∙◌, subst}
 use mathlib.Core.Bool.{true, false}
 use mathlib.Core.List.{List, [], ◌∷◌, ◌++◌, map, append-nil}
-use mathlib.Core.Option.{none, some}
+use Rattle.std.specs.Prelude.{None, Some, Option, Result}
 use lib.Dec.{eqb}
 use lib.ListN.{length, take, drop}
 use lib.Seq.{drop-drop}
-use Rattle.fields.specs.Answer.{Answer, gives, ends, refuses}
+use Rattle.fields.specs.Answer.{Answer, gives, ends, refuses, told_step}
+use Rattle.fields.specs.declared.Refusal.{Refusal}
 use Rattle.fields.specs.Open.{open_in}
 use Rattle.fields.specs.declared.RecordNumber.{RecordNumber}
 use Rattle.fields.proofs.Cases.{yes, not_first}
@@ -18,14 +19,12 @@ use Rattle.table.specs.Held.{record_at, record_of, held_at, base_row, base_of}
 use Rattle.table.specs.Layout.{row_at}
 use Rattle.table.specs.declared.TableHeader.{TableHeader}
 use Rattle.table.proofs.Sound as tables
-use Rattle.table.proofs.Holds.{base-held, none-some, the-some}
+use Rattle.table.proofs.Holds.{base-held, None-Some, the-Some}
 use Rattle.turns.specs.State.{Lies, Ready, state, no_list, no_key}
 use Rattle.items.specs.Start.{fresh_of}
 use Rattle.items.specs.Items.{Left, most_reads, next_in, told_next}
-use Rattle.turns.specs.Turn.{told_item}
 use Rattle.turns.specs.declared.State.{State}
 use Rattle.turns.specs.declared.Item.{Item}
-use Rattle.turns.specs.declared.ItemStep.{ItemStep}
 use Rattle.items.specs.declared.Walked.{Walked}
 use Rattle.items.proofs.Rests.{no-list-lies}
 use Rattle.items.proofs.Kept.{next-lies, item-lies, measure-small}
@@ -85,9 +84,9 @@ module _ (t : List ℕ) (m : Making) (going : Going t m) where
   pub small : length base ≤ 4096
   small = base_small t m.h going.table going.based
 
-  module _ (r : Walked) (a : ItemStep) (i : Item) (e : told_next r ≡ next_in base number (record_of t) m.walk) (f : r.answer ≡ a) (g : told_item a ≡ gives i) where
+  module _ (r : Walked) (a : Result (Option Item) Refusal) (i : Item) (e : told_next r ≡ next_in base number (record_of t) m.walk) (f : r.answer ≡ a) (g : told_step a ≡ gives i) where
     pub item-inside : Lies (length base) i.rest
-    item-inside = item-lies base number (record_of t) m.walk small going.lies i (sym (ap (λ (l : Left). l.answer) e) ∙ ap told_item f ∙ g)
+    item-inside = item-lies base number (record_of t) m.walk small going.lies i (sym (ap (λ (l : Left). l.answer) e) ∙ ap told_step f ∙ g)
 
     pub left-inside : Lies (length base) r.left.list
     left-inside = subst (λ (l : Left). Lies (length base) l.left.list) (sym e) (next-lies base number (record_of t) m.walk small going.lies)
@@ -108,7 +107,7 @@ module _ (t : List ℕ) (m : Making) (going : Going t m) where
 
       pub item-sound : r.reads ≤ most_reads → p.reads ≤ 1052929 → p.count ≤ 157 → Going t (onwards m.h r.left (m.reads + r.reads + p.reads) p.count)
       item-sound x y z =
-          let d = sinks base number (record_of t) m.walk r i e (ap told_item f ∙ g) in
+          let d = sinks base number (record_of t) m.walk r i e (ap told_step f ∙ g) in
           record {
             table = going.table;
             based = going.based;
@@ -136,9 +135,9 @@ module _ (t : List ℕ) (m : Making) (going : Going t m) where
       ap (λ (x : ℕ). part_lines_of x (drop (5 * m.shown) ns) ++ walk_lines base number (record_of t) m.reads m.walk) k
 
 -- the base row's own index
-base-is : (h : TableHeader) (i : ℕ) → base_row h ≡ some i → h.base ≡ i
+base-is : (h : TableHeader) (i : ℕ) → base_row h ≡ Some i → h.base ≡ i
 unfolding base_row
-base-is h i e = the-some (not_first (eqb h.base h.count) none (some h.base) (some i) e none-some).1
+base-is h i e = the-Some (not_first (eqb h.base h.count) None (Some h.base) (Some i) e None-Some).1
 
 -- the first line of a base record
 begun-comes : (t : List ℕ) (h : TableHeader) (ns : List ℕ) (end : ℕ) (a : Answer Unit)
@@ -157,7 +156,7 @@ begun-sound t h end (gives u) e l =
 begun-sound t h end ends e l = tt
 begun-sound t h end (refuses r) e l = tt
 
-pub record-told : {d e : List ℕ} {at : ℕ} (t : List ℕ) (h : TableHeader) (i : ℕ) (r : Told) → table_of t ≡ gives h → base_row h ≡ some i
+pub record-told : {d e : List ℕ} {at : ℕ} (t : List ℕ) (h : TableHeader) (i : ℕ) (r : Told) → table_of t ≡ gives h → base_row h ≡ Some i
     → Put d at e r.end (record_line (row_at t h i).number (length (record_at t h i))) 256
     → r ≡ beginning h (record_at t h i) (open_in (record_at t h i) (row_at t h i).number h.size) r.end
     → ((ns : List ℕ) → Tells (base_lines t h (base_of t)) (to_come t r.next ns) d at e r) × Sound t r.next
@@ -186,7 +185,7 @@ module _ (t : List ℕ) (m : Making) (s : List ℕ) (n : RecordNumber) (based : 
   pub based_ready : Ready s t m.h
   based_ready = of-base (λ x k. Ready x t m.h) (record { sound = going.table; small = small t m going })
 
-  module _ (r : Walked) (a : ItemStep) (i : Item) (e : told_next r ≡ next_in s n (record_of t) m.walk) (f : r.answer ≡ a) (g : told_item a ≡ gives i) where
+  module _ (r : Walked) (a : Result (Option Item) Refusal) (i : Item) (e : told_next r ≡ next_in s n (record_of t) m.walk) (f : r.answer ≡ a) (g : told_step a ≡ gives i) where
     pub based_item : Lies (length s) i.rest
     based_item = of-base (λ y k. told_next r ≡ next_in y k (record_of t) m.walk → Lies (length y) i.rest) (λ z. item-inside t m going r a i z f g) e
 
@@ -230,7 +229,7 @@ pub refused_told : {before : List Text} {d e : List ℕ} {at : ℕ} (t ns : List
     → r ≡ ending no_numbers (state 0 no_list no_key) r.end → Tells before (to_come t r.next ns) d at e r
 refused_told t ns r b p z = last_told t ns no_numbers (state 0 no_list no_key) refused_line r z b p
 
-pub record_told_of : {d e : List ℕ} {at : ℕ} (t : List ℕ) (h : TableHeader) (i : ℕ) (r : Told) (s : List ℕ) (n : RecordNumber) → table_of t ≡ gives h → base_row h ≡ some i
+pub record_told_of : {d e : List ℕ} {at : ℕ} (t : List ℕ) (h : TableHeader) (i : ℕ) (r : Told) (s : List ℕ) (n : RecordNumber) → table_of t ≡ gives h → base_row h ≡ Some i
     → s ≡ record_at t h i → n ≡ (row_at t h i).number → Put d at e r.end (record_line n (length s)) 256 → r ≡ beginning h s (open_in s n h.size) r.end
     → ((ns : List ℕ) → Tells (base_lines t h (base_of t)) (to_come t r.next ns) d at e r) × Sound t r.next
 record_told_of {d} {e} {at} t h i r s n q b u v p z =

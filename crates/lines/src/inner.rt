@@ -1,7 +1,7 @@
 // The listing line by line, for callers that began it with `start` and lend it the same table throughout.
 ghost use Rattle.std.specs.Prelude.{◌≡◌, List, ℕ, ◌+◌, ◌*◌, ◌≤◌, ◌<◌, length, take, drop};
-ghost use Rattle.fields.specs.Answer.{gives};
-ghost use Rattle.fields.specs.Open.{open_in, told_opened};
+ghost use Rattle.fields.specs.Answer.{gives, told};
+ghost use Rattle.fields.specs.Open.{open_in};
 ghost use Rattle.table.specs.Check.{table_of};
 ghost use Rattle.table.specs.Held.{record_of, base_of};
 ghost use Rattle.turns.specs.State.{state, no_list, no_key};
@@ -13,9 +13,9 @@ ghost use Rattle.lines.specs.Pages.{Pages, page_of};
 ghost use Rattle.lines.specs.declared.Stage.TheVariants.{Items};
 
 use crate::{Making, Stage, Told};
-use fields::{Opened, RecordNumber};
-use table::{TableHeader, RowFound, Tested};
-use turns::{ItemStep, State};
+use fields::{RecordNumber, Refusal};
+use table::TableHeader;
+use turns::State;
 
 // Where a listing stands that has told all its lines.
 fn done(h: TableHeader, w: State, end: usize) -> Told
@@ -56,15 +56,15 @@ fn walk_line<'a>(
     let n = items::inner::next(base, number, t, m.h, m.walk);
     let reads = m.reads + n.reads;
     match n.answer {
-        ItemStep::End => {
+        Ok(None) => {
             let end = line::inner::end_line(out, at, reads);
             done(m.h, n.left, end)
         }
-        ItemStep::Refused(r) => {
+        Err(r) => {
             let end = line::inner::stopped_line(out, at, r.number, reads);
             done(m.h, n.left, end)
         }
-        ItemStep::Given(i) => {
+        Ok(Some(i)) => {
             let l = gather::inner::item_line(base, number, t, m.h, i, numbers, out, at);
             Told {
                 next: Making {
@@ -135,12 +135,12 @@ fn refused(out: &mut [u8], at: usize) -> Told
 
 // Whether the walk of a base record begins, or the listing stops by an opening check.
 #[tactic(auto, unfolding(crate::specs::Making::stage_of))]
-fn stage_of(o: Opened) -> Stage
-    ensures { result ≡ stage_of (told_opened o) }
+fn stage_of(o: Result<(), Refusal>) -> Stage
+    ensures { result ≡ stage_of (told o) }
 {
     match o {
-        Opened::Refused(r) => Stage::Stopped(r.number),
-        Opened::Passed => Stage::Items,
+        Err(r) => Stage::Stopped(r.number),
+        Ok(()) => Stage::Items,
     }
 }
 
@@ -174,8 +174,8 @@ fn based_line<'a>(t: &'a [u8], h: TableHeader, out: &mut [u8], at: usize) -> Tol
     ensures sound { Sound t.now result.next }
 {
     match table::base_row(h) {
-        RowFound::Missing => refused(out, at),
-        RowFound::At(i) => {
+        None => refused(out, at),
+        Some(i) => {
             let base = lookup::inner::record_at(t, h, i);
             let r = table::inner::row_at(t, h, i);
             record_line(base, r.number, h, out, at)
@@ -193,8 +193,8 @@ fn first_line<'a>(t: &'a [u8], out: &mut [u8], at: usize) -> Told
         return refused(out, at);
     }
     match table::check(t) {
-        Tested::Refused(_) => refused(out, at),
-        Tested::Sound(h) => based_line(t, h, out, at),
+        Err(_) => refused(out, at),
+        Ok(h) => based_line(t, h, out, at),
     }
 }
 

@@ -7,24 +7,24 @@ use Rattle.lines.proofs.Tellings.{refused_told, record_told_of}
 use Rattle.lines.proofs.inner.based_line.Goals as goal
 
 pub record_at-base-requires-clause-below : goal.record_at-base-requires-clause-below
-record_at-base-requires-clause-below c = (base-held (sound _ _ c.requires.checked) _ (sym c.in-At.ensures)).0
+record_at-base-requires-clause-below c = (base-held (sound _ _ c.requires.checked) _ (sym c.in-Some.ensures)).0
 
 pub row_at-r-requires : goal.row_at-r-requires
 row_at-r-requires c =
-    row_inside (sound _ _ c.requires.checked) _ (base-held (sound _ _ c.requires.checked) _ (sym c.in-At.ensures)).0
+    row_inside (sound _ _ c.requires.checked) _ (base-held (sound _ _ c.requires.checked) _ (sym c.in-Some.ensures)).0
 
-pub returns-in-Missing-clause-told : goal.returns-in-Missing-clause-told
+pub returns-in-None-clause-told : goal.returns-in-None-clause-told
 unfolding base_lines table_refused
-returns-in-Missing-clause-told c ns =
-    refused_told _ ns _ (ap (base_lines c.args.t.now c.args.h) (base-none (sound _ _ c.requires.checked) (sym c.in-Missing.ensures)))
+returns-in-None-clause-told c ns =
+    refused_told _ ns _ (ap (base_lines c.args.t.now c.args.h) (base-none (sound _ _ c.requires.checked) (sym c.in-None.ensures)))
     c.refused.ensures.put c.refused.ensures.value
 
-pub returns-in-At-clause-told : goal.returns-in-At-clause-told
-returns-in-At-clause-told c =
-    (record_told_of _ _ _ _ _ _ c.requires.checked (sym c.in-At.ensures) c.record_at-base.ensures
+pub returns-in-Some-clause-told : goal.returns-in-Some-clause-told
+returns-in-Some-clause-told c =
+    (record_told_of _ _ _ _ _ _ c.requires.checked (sym c.in-Some.ensures) c.record_at-base.ensures
     (ap (λ (r : Row). r.number) c.row_at-r.ensures) c.record_line.ensures.put c.record_line.ensures.value).0
 
-pub returns-in-At-clause-sound : goal.returns-in-At-clause-sound
-returns-in-At-clause-sound c =
-    (record_told_of _ _ _ _ _ _ c.requires.checked (sym c.in-At.ensures) c.record_at-base.ensures
+pub returns-in-Some-clause-sound : goal.returns-in-Some-clause-sound
+returns-in-Some-clause-sound c =
+    (record_told_of _ _ _ _ _ _ c.requires.checked (sym c.in-Some.ensures) c.record_at-base.ensures
     (ap (λ (r : Row). r.number) c.row_at-r.ensures) c.record_line.ensures.put c.record_line.ensures.value).1

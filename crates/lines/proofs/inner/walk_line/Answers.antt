@@ -11,29 +11,29 @@ item_line-l-requires-clause-ready c = based_ready _ _ _ _ c.requires.based c.req
 
 pub item_line-l-requires-clause-lies : goal.item_line-l-requires-clause-lies
 item_line-l-requires-clause-lies c =
-    based_item _ _ _ _ c.requires.based c.requires.going c.next-n.result _ _ c.next-n.ensures.result_value c.in-Given.is refl
+    based_item _ _ _ _ c.requires.based c.requires.going c.next-n.result _ _ c.next-n.ensures.result_value c.in-Ok-Some.is refl
 
-pub returns-in-End-clause-told : goal.returns-in-End-clause-told
-returns-in-End-clause-told c =
-    last_told _ _ _ _ _ _ c.done.ensures (walk_ends _ _ _ _ _ c.next-n.result _ c.next-n.ensures.result_value c.in-End.is refl)
+pub returns-in-Ok-None-clause-told : goal.returns-in-Ok-None-clause-told
+returns-in-Ok-None-clause-told c =
+    last_told _ _ _ _ _ _ c.done.ensures (walk_ends _ _ _ _ _ c.next-n.result _ c.next-n.ensures.result_value c.in-Ok-None.is refl)
     c.end_line-end.ensures
 
-pub returns-in-Refused-clause-told : goal.returns-in-Refused-clause-told
-returns-in-Refused-clause-told c =
-    last_told _ _ _ _ _ _ c.done-in-Refused.ensures
-    (walk-stops _ _ _ _ _ c.next-n.result _ _ c.next-n.ensures.result_value c.in-Refused.is refl)
+pub returns-in-Err-clause-told : goal.returns-in-Err-clause-told
+returns-in-Err-clause-told c =
+    last_told _ _ _ _ _ _ c.done-in-Err.ensures
+    (walk-stops _ _ _ _ _ c.next-n.result _ _ c.next-n.ensures.result_value c.in-Err.is refl)
     c.stopped_line-end.ensures
 
-pub returns-in-Given-clause-told : goal.returns-in-Given-clause-told
-returns-in-Given-clause-told c =
+pub returns-in-Ok-Some-clause-told : goal.returns-in-Ok-Some-clause-told
+returns-in-Ok-Some-clause-told c =
     tells _ _ refl
-    (based_comes _ _ _ _ c.requires.based c.requires.going c.next-n.result _ _ c.next-n.ensures.result_value c.in-Given.is refl
+    (based_comes _ _ _ _ c.requires.based c.requires.going c.next-n.result _ _ c.next-n.ensures.result_value c.in-Ok-Some.is refl
     _ _ c.item_line-l.ensures.parts c.next-n.ensures.reads_le_most_reads c.item_line-l.ensures.few_reads
     c.item_line-l.ensures.few_parts).0
     c.item_line-l.ensures.line
 
-pub returns-in-Given-clause-sound : goal.returns-in-Given-clause-sound
-returns-in-Given-clause-sound c =
-    (based_comes _ _ _ _ c.requires.based c.requires.going c.next-n.result _ _ c.next-n.ensures.result_value c.in-Given.is refl
+pub returns-in-Ok-Some-clause-sound : goal.returns-in-Ok-Some-clause-sound
+returns-in-Ok-Some-clause-sound c =
+    (based_comes _ _ _ _ c.requires.based c.requires.going c.next-n.result _ _ c.next-n.ensures.result_value c.in-Ok-Some.is refl
     _ _ c.item_line-l.ensures.parts c.next-n.ensures.reads_le_most_reads c.item_line-l.ensures.few_reads
     c.item_line-l.ensures.few_parts).1
