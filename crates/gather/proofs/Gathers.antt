@@ -1,4 +1,5 @@
--- The numbers of the parts found so far stand in front of the lent ones, and from the cursor on the rest of the parts follows.
+-- The numbers of the parts found so far stand in front of the lent ones, and from the cursor on the rest of the parts
+-- follows.
 use Rattle.std.proofs.Common.{◌≡◌, ℕ, zero, suc, ◌+◌, ◌-◌, ◌*◌, ◌<◌, ◌≤◌, false, List, [], ◌∷◌, ◌++◌, length, take, set, refl, sym, ap, ◌∙◌, subst, append_assoc, append-nil, arith}
 use Rattle.std.proofs.Math.Option.{Option}
 use Rattle.std.proofs.lemmas.Slice.{take-put_mid}
@@ -26,16 +27,19 @@ use Rattle.gather.specs.Gather.{first_size, name_for, value_for, parts_for, part
 use Rattle.line.specs.declared.Gathered.{Gathered}
 
 -- the numbers of one part more
-pub five_more : (d five : List ℕ) (k : ℕ) → 5 * k + 5 ≤ length d → length five ≡ 5 → take (5 * (k + 1)) (put_mid (5 * k) (5 * k + 5 - 5 * k) d five) ≡ take (5 * k) d ++ five
+pub five_more : (d five : List ℕ) (k : ℕ) → 5 * k + 5 ≤ length d → length five ≡ 5
+    → take (5 * (k + 1)) (put_mid (5 * k) (5 * k + 5 - 5 * k) d five) ≡ take (5 * k) d ++ five
 five_more d five k l e = take-put_mid (5 * k) (5 * k + 5 - 5 * k) d five (5 * (k + 1)) (omega arith) (omega arith)
 
 numbers_more : (ps : List Part) (p : Part) → all_numbers (ps ++ (p ∷ [])) ≡ all_numbers ps ++ part_numbers p
 unfolding all_numbers
 numbers_more [] p = append-nil (part_numbers p)
-numbers_more (q ∷ ps) p = ap (λ (x : List ℕ). part_numbers q ++ x) (numbers_more ps p) ∙ sym (append_assoc (part_numbers q) (all_numbers ps) (part_numbers p))
+numbers_more (q ∷ ps) p = ap (λ (x : List ℕ). part_numbers q ++ x) (numbers_more ps p)
+    ∙ sym (append_assoc (part_numbers q) (all_numbers ps) (part_numbers p))
 
 -- the first one's size stays once there is one
-sized : (ps : List Part) (p : Part) (k : ℕ) → length ps ≡ k → pick (eqb k 0) p.size (first_size ps) ≡ first_size (ps ++ (p ∷ []))
+sized : (ps : List Part) (p : Part) (k : ℕ) → length ps ≡ k
+    → pick (eqb k 0) p.size (first_size ps) ≡ first_size (ps ++ (p ∷ []))
 unfolding first_size
 sized [] p zero e = refl
 sized [] p (suc k) e = absurd (omega arith)
@@ -56,56 +60,68 @@ module _ (s : List ℕ) (n : RecordNumber) (look : RecordNumber → Option (List
   pub begins_at : (ns : List ℕ) (c : Cursor) → l.from ≤ l.to → c ≡ cursor l no_key → Gathering blank_parts 0 0 0 c ns
   begins_at ns c o e = rw e (begins ns o)
 
-  module _ (ps : List Part) (count size reads : ℕ) (c : Cursor) (ns : List ℕ) (h : Gathering ps count size reads c ns) where
-    pub one_more : (p : Part) (d : Cursor) (k size' : ℕ) (ns' : List ℕ) → step_in s n look 157 count c ≡ lists p d k → k ≤ 257 → count < 157
-        → take (5 * (count + 1)) ns' ≡ take (5 * count) ns ++ part_numbers p → size' ≡ pick (eqb count 0) p.size size
-        → Gathering (set ps count p) (count + 1) size' (reads + k) d ns'
-    one_more p d k size' ns' e f b g z =
-        let w = h.filling.size in
-        let v = blank_size in
-        let x : count < length ps = omega arith in
-        let taken = stored ps count p x in
-        record {
-          filling = more s n look 157 l blank_parts ps count reads c h.filling p d k e f (omega arith);
-          kept = g ∙ ap (λ (y : List ℕ). y ++ part_numbers p) h.kept ∙ sym (numbers_more (take count ps) p) ∙ ap all_numbers (sym taken);
-          first = z ∙ ap (λ (y : ℕ). pick (eqb count 0) p.size y) h.first
-              ∙ sized (take count ps) p count (length-take-le count ps (omega arith)) ∙ ap first_size (sym taken);
-        }
+  module _ (ps : List Part) (count size reads : ℕ) (c : Cursor) (ns : List ℕ) (h : Gathering ps count size reads c ns)
+    where
+      pub one_more : (p : Part) (d : Cursor) (k size' : ℕ) (ns' : List ℕ) → step_in s n look 157 count c ≡ lists p d k
+          → k ≤ 257 → count < 157
+          → take (5 * (count + 1)) ns' ≡ take (5 * count) ns ++ part_numbers p → size' ≡ pick (eqb count 0) p.size size
+          → Gathering (set ps count p) (count + 1) size' (reads + k) d ns'
+      one_more p d k size' ns' e f b g z =
+          let w = h.filling.size in
+          let v = blank_size in
+          let x : count < length ps = omega arith in
+          let taken = stored ps count p x in
+          record {
+            filling = more s n look 157 l blank_parts ps count reads c h.filling p d k e f (omega arith);
+            kept = g ∙ ap (λ (y : List ℕ). y ++ part_numbers p) h.kept ∙ sym (numbers_more (take count ps) p)
+                ∙ ap all_numbers (sym taken);
+            first = z ∙ ap (λ (y : ℕ). pick (eqb count 0) p.size y) h.first
+                ∙ sized (take count ps) p count (length-take-le count ps (omega arith)) ∙ ap first_size (sym taken);
+          }
 
-    pub gathers : (a : Ended) (k : ℕ) → step_in s n look 157 count c ≡ stops (told_ended a) k
-        → Gathers (parts_from s n look 157 l) ns (record { count = count; size = size; answer = a; reads = reads + k })
-    gathers a k e =
-        let w = stopped s n look 157 l blank_parts ps count reads c h.filling (told_ended a) k e in
-        let z = h.filling.size in let m = h.filling.most in
-        record {
-          count = sym (length-take-le count ps (omega arith)) ∙ ap (λ (x : Listing). length x.parts) (sym w);
-          size = h.first ∙ ap (λ (x : Listing). first_size x.parts) (sym w);
-          answer = ap (λ (x : Listing). x.answer) (sym w);
-          reads = ap (λ (x : Listing). x.reads) (sym w);
-          kept = h.kept ∙ ap (λ (x : Listing). all_numbers x.parts) (sym w);
-        }
+      pub gathers : (a : Ended) (k : ℕ) → step_in s n look 157 count c ≡ stops (told_ended a) k
+          → Gathers (parts_from s n look 157 l) ns (record { count = count; size = size; answer = a; reads = reads + k })
+      gathers a k e =
+          let w = stopped s n look 157 l blank_parts ps count reads c h.filling (told_ended a) k e in
+          let z = h.filling.size in let m = h.filling.most in
+          record {
+            count = sym (length-take-le count ps (omega arith)) ∙ ap (λ (x : Listing). length x.parts) (sym w);
+            size = h.first ∙ ap (λ (x : Listing). first_size x.parts) (sym w);
+            answer = ap (λ (x : Listing). x.answer) (sym w);
+            reads = ap (λ (x : Listing). x.reads) (sym w);
+            kept = h.kept ∙ ap (λ (x : Listing). all_numbers x.parts) (sym w);
+          }
 
 -- no list, no parts
-pub gathered_none : (s : List ℕ) (n : RecordNumber) (look : RecordNumber → Option (List ℕ)) (l : Rest) (ns : List ℕ) → l.is ≡ false
+pub gathered_none : (s : List ℕ) (n : RecordNumber) (look : RecordNumber → Option (List ℕ)) (l : Rest) (ns : List ℕ)
+    → l.is ≡ false
     → Gathers (parts_in s n look 157 l) ns (record { count = 0; size = 0; answer = ended.Whole; reads = 0 })
 unfolding parts_in first_size all_numbers
 gathered_none s n look l ns e =
-    subst (λ (x : Listing). Gathers x ns (record { count = 0; size = 0; answer = ended.Whole; reads = 0 })) (no l.is (parts_from s n look 157 l) (listing [] (gives tt) 0) e refl) (nothing ns)
+    subst (λ (x : Listing). Gathers x ns (record { count = 0; size = 0; answer = ended.Whole; reads = 0 }))
+    (no l.is (parts_from s n look 157 l) (listing [] (gives tt) 0) e refl) (nothing ns)
   where
-    nothing : (ns : List ℕ) → Gathers (listing [] (gives tt) 0) ns (record { count = 0; size = 0; answer = ended.Whole; reads = 0 })
+    nothing : (ns : List ℕ) → Gathers (listing [] (gives tt) 0) ns
+        (record { count = 0; size = 0; answer = ended.Whole; reads = 0 })
     nothing ns = record { count = refl; size = refl; answer = refl; reads = refl; kept = refl }
 
 -- the text of an item's line, from what the calls answered
-pub item_text : (s : List ℕ) (n : RecordNumber) (look : RecordNumber → Option (List ℕ)) (i : Item) {name : Answer Span} {value : Answer Value} {ns : List ℕ} {r : Gathered}
+pub item_text : (s : List ℕ) (n : RecordNumber) (look : RecordNumber → Option (List ℕ)) (i : Item)
+    {name : Answer Span} {value : Answer Value} {ns : List ℕ} {r : Gathered}
     → name ≡ name_for s n look i → value ≡ value_for s n look i → Gathers (parts_for s n look i) ns r
-    → attr_line i (name_text name) (pick i.rest.is (parts_text r.count r.size (told_ended r.answer)) (value_text value)) ≡ item_line s n look i
+    → attr_line i (name_text name) (pick i.rest.is (parts_text r.count r.size (told_ended r.answer))
+    (value_text value)) ≡ item_line s n look i
 unfolding item_line parts_text_of
 item_text s n look i {name} {value} {ns} {r} a b g =
-    ap (λ (x : Answer Span). attr_line i (name_text x) (pick i.rest.is (parts_text r.count r.size (told_ended r.answer)) (value_text value))) a
-    ∙ ap (λ (x : Answer Value). attr_line i (name_text (name_for s n look i)) (pick i.rest.is (parts_text r.count r.size (told_ended r.answer)) (value_text x))) b
-    ∙ ap (λ (x : Text). attr_line i (name_text (name_for s n look i)) (pick i.rest.is x (value_text (value_for s n look i)))) (told-so g)
+    ap (λ (x : Answer Span). attr_line i (name_text x) (pick i.rest.is
+    (parts_text r.count r.size (told_ended r.answer)) (value_text value))) a
+    ∙ ap (λ (x : Answer Value). attr_line i (name_text (name_for s n look i))
+    (pick i.rest.is (parts_text r.count r.size (told_ended r.answer)) (value_text x))) b
+    ∙ ap (λ (x : Text). attr_line i (name_text (name_for s n look i))
+    (pick i.rest.is x (value_text (value_for s n look i)))) (told-so g)
   where
-    told-so : Gathers (parts_for s n look i) ns r → parts_text r.count r.size (told_ended r.answer) ≡ parts_text_of (parts_for s n look i)
+    told-so : Gathers (parts_for s n look i) ns r
+        → parts_text r.count r.size (told_ended r.answer) ≡ parts_text_of (parts_for s n look i)
     told-so g =
         ap (λ (x : ℕ). parts_text x r.size (told_ended r.answer)) g.count
         ∙ ap (λ (x : ℕ). parts_text (length (parts_for s n look i).parts) x (told_ended r.answer)) g.size

@@ -1,4 +1,5 @@
--- 01, "The listing": the whole of it, a list of lines, from what the layers below define: items, parts, names and values.
+-- 01, "The listing": the whole of it, a list of lines, from what the layers below define: items, parts, names and
+-- values.
 use Rattle.std.specs.Prelude.{ℕ, zero, suc, ◌+◌, List, [], ◌∷◌, ◌++◌, map, ltb, length}
 use Rattle.std.proofs.Math.Option.{Option, none, some}
 use Rattle.fields.specs.Pick.{pick}
@@ -50,7 +51,9 @@ table_refused = refused_line ∷ []
 
 -- "After `record NUMBER size M`": the base row's record, and its walk
 unfoldable pub base_lines : List ℕ → Numbers → Option Held → List Text
-base_lines t h (some b) = record_line b.number (length b.bytes) ∷ opened_lines b.bytes b.number (record_of t) (open_in b.bytes b.number h.size)
+base_lines t h (some b) =
+    record_line b.number (length b.bytes) ∷ opened_lines b.bytes b.number (record_of t)
+    (open_in b.bytes b.number h.size)
 base_lines t h none = table_refused
 
 unfoldable pub checked_lines : List ℕ → Answer Numbers → List Text

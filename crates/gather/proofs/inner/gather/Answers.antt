@@ -28,16 +28,26 @@ loop-a-smaller c = (goes_on _ _ _ _ _ _ _ _ c.step-m.ensures.result_value c.in-L
 pub loop-a-preserved : goal.loop-a-preserved
 loop-a-preserved c = (
   _,
-  one_more _ _ _ _ _ _ _ _ _ _ c.loop-a.invariant.1 _ _ _ _ _ (sym c.step-m.ensures.result_value ∙ made c.step-m.result c.in-Lists.is)
-      c.step-m.ensures.reads_bound (goes_on _ _ _ _ _ _ _ _ c.step-m.ensures.result_value c.in-Lists.is).fits c.keep.ensures.kept c.size_of-size.ensures,
+  one_more _ _ _ _ _ _ _ _ _ _ c.loop-a.invariant.1 _ _ _ _ _
+      (sym c.step-m.ensures.result_value ∙ made c.step-m.result c.in-Lists.is)
+      c.step-m.ensures.reads_bound (goes_on _ _ _ _ _ _ _ _ c.step-m.ensures.result_value c.in-Lists.is).fits
+      c.keep.ensures.kept c.size_of-size.ensures,
 )
 
 pub returns-clause-gathers : goal.returns-clause-gathers
 returns-clause-gathers c =
-    gathers _ _ _ _ _ _ _ _ _ _ c.loop-a.invariant.1 _ _ (sym c.step-m.ensures.result_value ∙ made c.step-m.result c.in-Stops.is)
+    gathers _ _ _ _ _ _ _ _ _ _ c.loop-a.invariant.1 _ _ (sym c.step-m.ensures.result_value
+    ∙ made c.step-m.result c.in-Stops.is)
 
 pub returns-clause-few_reads : goal.returns-clause-few_reads
-returns-clause-few_reads c = omega (arith, c.loop-a.invariant.1.filling.few, c.loop-a.invariant.1.filling.same, c.requires.ready.small, c.step-m.ensures.reads_bound)
+returns-clause-few_reads c =
+    omega (
+      arith,
+      c.loop-a.invariant.1.filling.few,
+      c.loop-a.invariant.1.filling.same,
+      c.requires.ready.small,
+      c.step-m.ensures.reads_bound,
+    )
 
 pub returns-clause-few_parts : goal.returns-clause-few_parts
 returns-clause-few_parts c = omega (arith, c.loop-a.invariant.1.filling.most, blank_size)

@@ -7,16 +7,19 @@ use Rattle.lines.proofs.inner.first_line.Goals as goal
 pub returns-then-t-gt65536-clause-told : goal.returns-then-t-gt65536-clause-told
 unfolding listing_of table_refused
 returns-then-t-gt65536-clause-told c ns =
-    refused_told _ ns _ (rw (lt-ltb 65536 (length c.args.t.now) c.if-t-gt65536.true)) c.refused.ensures.put c.refused.ensures.value
+    refused_told _ ns _ (rw (lt-ltb 65536 (length c.args.t.now) c.if-t-gt65536.true)) c.refused.ensures.put
+    c.refused.ensures.value
 
 pub returns-in-Refused-clause-told : goal.returns-in-Refused-clause-told
 unfolding listing_of checked_lines table_refused
 returns-in-Refused-clause-told c ns =
-    refused_told _ ns _ (rw (le-ltb 65536 (length c.args.t.now) c.if-t-gt65536.false) (ap (checked_lines c.args.t.now) (sym c.in-Refused.ensures)))
+    refused_told _ ns _ (rw (le-ltb 65536 (length c.args.t.now) c.if-t-gt65536.false)
+    (ap (checked_lines c.args.t.now) (sym c.in-Refused.ensures)))
     c.refused-in-Refused.ensures.put c.refused-in-Refused.ensures.value
 
 pub returns-in-Sound-clause-told : goal.returns-in-Sound-clause-told
 unfolding listing_of checked_lines
 returns-in-Sound-clause-told c ns =
-    tells_of (rw (le-ltb 65536 (length c.args.t.now) c.if-t-gt65536.false) (ap (checked_lines c.args.t.now) c.in-Sound.ensures))
+    tells_of (rw (le-ltb 65536 (length c.args.t.now) c.if-t-gt65536.false)
+    (ap (checked_lines c.args.t.now) c.in-Sound.ensures))
     (c.based_line.ensures.told ns)

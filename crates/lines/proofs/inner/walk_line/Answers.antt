@@ -11,11 +11,13 @@ item_line-l-requires-clause-ready c = based_ready _ _ _ _ c.requires.based c.req
 
 pub item_line-l-requires-clause-lies : goal.item_line-l-requires-clause-lies
 item_line-l-requires-clause-lies c =
-    based_item _ _ _ _ c.requires.based c.requires.going c.next-n.result _ _ c.next-n.ensures.result_value c.in-Given.is refl
+    based_item _ _ _ _ c.requires.based c.requires.going c.next-n.result _ _ c.next-n.ensures.result_value
+    c.in-Given.is refl
 
 pub returns-in-End-clause-told : goal.returns-in-End-clause-told
 returns-in-End-clause-told c =
-    last_told _ _ _ _ _ _ c.done.ensures (walk_ends _ _ _ _ _ c.next-n.result _ c.next-n.ensures.result_value c.in-End.is refl)
+    last_told _ _ _ _ _ _ c.done.ensures (walk_ends _ _ _ _ _ c.next-n.result _ c.next-n.ensures.result_value
+    c.in-End.is refl)
     c.end_line-end.ensures
 
 pub returns-in-Refused-clause-told : goal.returns-in-Refused-clause-told
@@ -27,13 +29,15 @@ returns-in-Refused-clause-told c =
 pub returns-in-Given-clause-told : goal.returns-in-Given-clause-told
 returns-in-Given-clause-told c =
     tells _ _ refl
-    (based_comes _ _ _ _ c.requires.based c.requires.going c.next-n.result _ _ c.next-n.ensures.result_value c.in-Given.is refl
+    (based_comes _ _ _ _ c.requires.based c.requires.going c.next-n.result _ _ c.next-n.ensures.result_value
+    c.in-Given.is refl
     _ _ c.item_line-l.ensures.parts c.next-n.ensures.reads_le_most_reads c.item_line-l.ensures.few_reads
     c.item_line-l.ensures.few_parts).0
     c.item_line-l.ensures.line
 
 pub returns-in-Given-clause-sound : goal.returns-in-Given-clause-sound
 returns-in-Given-clause-sound c =
-    (based_comes _ _ _ _ c.requires.based c.requires.going c.next-n.result _ _ c.next-n.ensures.result_value c.in-Given.is refl
+    (based_comes _ _ _ _ c.requires.based c.requires.going c.next-n.result _ _ c.next-n.ensures.result_value
+    c.in-Given.is refl
     _ _ c.item_line-l.ensures.parts c.next-n.ensures.reads_le_most_reads c.item_line-l.ensures.few_reads
     c.item_line-l.ensures.few_parts).1
