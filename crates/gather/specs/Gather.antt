@@ -46,7 +46,8 @@ module _ (s : List ℕ) (n : RecordNumber) (look : RecordNumber → Option (List
 
   -- the line of an item: the parts where it has a list, else the value
   unfoldable pub item_line : Item → Text
-  item_line i = attr_line i (name_text (name_for i)) (pick i.rest.is (parts_text_of (parts_for i)) (value_text (value_for i)))
+  item_line i =
+      attr_line i (name_text (name_for i)) (pick i.rest.is (parts_text_of (parts_for i)) (value_text (value_for i)))
 
 -- the numbers of parts, one part behind another
 unfoldable pub all_numbers : List Part → List ℕ

@@ -1,5 +1,7 @@
--- 01, "The listing": the whole of it, a list of lines, from what the layers below define: items, parts, names and values.
-use Rattle.std.specs.Prelude.{ℕ, zero, suc, ◌+◌, List, [], ◌∷◌, ◌++◌, map, ltb, length, Option, Some, None}
+-- 01, "The listing": the whole of it, a list of lines, from what the layers below define: items, parts, names and
+-- values.
+use Rattle.std.specs.Prelude.{ℕ, zero, suc, ◌+◌, List, [], ◌∷◌, ◌++◌, map, ltb, length}
+use Rattle.std.specs.Prelude.{Option, None, Some}
 use Rattle.fields.specs.Pick.{pick}
 use Rattle.fields.specs.Answer.{Answer, gives, ends, refuses}
 use Rattle.fields.specs.Open.{open_in}
@@ -49,7 +51,9 @@ table_refused = refused_line ∷ []
 
 -- "After `record NUMBER size M`": the base row's record, and its walk
 unfoldable pub base_lines : List ℕ → TableHeader → Option Held → List Text
-base_lines t h (Some b) = record_line b.number (length b.bytes) ∷ opened_lines b.bytes b.number (record_of t) (open_in b.bytes b.number h.size)
+base_lines t h (Some b) =
+    record_line b.number (length b.bytes) ∷ opened_lines b.bytes b.number (record_of t)
+    (open_in b.bytes b.number h.size)
 base_lines t h None = table_refused
 
 unfoldable pub checked_lines : List ℕ → Answer TableHeader → List Text

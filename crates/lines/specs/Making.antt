@@ -42,7 +42,8 @@ parts_to_come m ns = part_lines_of (m.count - m.shown) (drop (5 * m.shown) ns)
 
 unfoldable pub to_come_at : List ℕ → Making → List ℕ → Stage → List Text
 to_come_at t m ns stage.Start = listing_of t
-to_come_at t m ns stage.Items = parts_to_come m ns ++ walk_lines (base_bytes t m.h) (base_number t m.h) (record_of t) m.reads m.walk
+to_come_at t m ns stage.Items =
+    parts_to_come m ns ++ walk_lines (base_bytes t m.h) (base_number t m.h) (record_of t) m.reads m.walk
 to_come_at t m ns (stage.Stopped n) = stopped_line n m.reads ∷ []
 to_come_at t m ns stage.Done = []
 
@@ -57,7 +58,8 @@ any_at stage.Items = true
 any_at (stage.Stopped n) = true
 any_at stage.Done = false
 
--- what one call of the walk with its parts reads at most (257 for each byte of a list, and 257), and a whole listing, whose walk's measure is at most 12,289: bounds
+-- what one call of the walk with its parts reads at most (257 for each byte of a list, and 257), and a whole listing,
+-- whose walk's measure is at most 12,289: bounds
 -- that sums fit under, not the least
 abbrev pub most_at_once : ℕ
 most_at_once = most_reads + 1052929
@@ -83,7 +85,8 @@ SoundAt t m stage.Done = Unit {0}
 abbrev pub Sound : List ℕ → Making → Type 0
 Sound t m = SoundAt t m m.stage
 
--- one call: the next line stands behind the text so far, and what was to come is this line and what comes after it; or nothing was to come, and nothing was put
+-- one call: the next line stands behind the text so far, and what was to come is this line and what comes after it;
+-- or nothing was to come, and nothing was put
 pub record Tells (before after : List Text) (d : List ℕ) (at : ℕ) (e : List ℕ) (r : Told) : Type 0 where
   pub line : Text
   pub told : before ≡ pick r.more (line ∷ after) []
@@ -92,7 +95,13 @@ pub record Tells (before after : List Text) (d : List ℕ) (at : ℕ) (e : List 
 
 -- behind the last line
 abbrev pub ending : TableHeader → State → ℕ → Told
-ending h w end = record { next = record { stage = stage.Done; h = h; walk = w; reads = 0; shown = 0; count = 0 }; end = end; more = true }
+ending h w end =
+    record {
+      next = record { stage = stage.Done; h = h; walk = w; reads = 0; shown = 0; count = 0 };
+      end = end;
+      more =
+          true;
+    }
 
 -- behind the line of one more part
 abbrev pub showing : Making → ℕ → Told
@@ -108,13 +117,21 @@ no_numbers = record { count = 0; size = 0; directory = 0; records = 0; base = 0 
 
 -- before the first line
 abbrev pub starting : Making
-starting = record { stage = stage.Start; h = no_numbers; walk = state 0 no_list no_key; reads = 0; shown = 0; count = 0 }
+starting =
+    record { stage = stage.Start; h = no_numbers; walk = state 0 no_list no_key; reads = 0; shown = 0; count = 0 }
 
--- behind the line of the record: among the items where the record passes the opening checks, else before the line that says by what it is refused
+-- behind the line of the record: among the items where the record passes the opening checks, else before the line
+-- that says by what it is refused
 unfoldable pub stage_of : Answer Unit → Stage
 stage_of (gives u) = stage.Items
 stage_of ends = stage.Done
 stage_of (refuses r) = stage.Stopped r.number
 
 abbrev pub beginning : TableHeader → List ℕ → Answer Unit → ℕ → Told
-beginning h s a end = record { next = record { stage = stage_of a; h = h; walk = fresh_of s; reads = 0; shown = 0; count = 0 }; end = end; more = true }
+beginning h s a end =
+    record {
+      next = record { stage = stage_of a; h = h; walk = fresh_of s; reads = 0; shown = 0; count = 0 };
+      end =
+          end;
+      more = true;
+    }

@@ -27,12 +27,14 @@ page x ls b = record { text = x; rest = ls; more = b }
 abbrev pub onto : Text → Page → Page
 onto l p = page (l ++ p.text) p.rest p.more
 
--- line after line, as long as there is room for the longest: 256 bytes. It takes lines from the front and loses none (proofs/Whole)
+-- line after line, as long as there is room for the longest: 256 bytes. It takes lines from the front and loses none
+-- (proofs/Whole)
 unfoldable pub page_of : ℕ → List Text → Page
 page_of room [] = page [] [] false
 page_of room (l ∷ ls) = pick (ltb room 256) (page [] (l ∷ ls) true) (onto l (page_of (room - length l) ls))
 
--- a call that tells line after line, from the front of the buffer: the page, what is still to come, and the bytes behind the page as they were
+-- a call that tells line after line, from the front of the buffer: the page, what is still to come, and the bytes
+-- behind the page as they were
 pub record Pages (p : Page) (after : List Text) (d e : List ℕ) (r : Told) : Type 0 where
   pub text : e ≡ p.text ++ drop (length p.text) d
   pub end : r.end ≡ length p.text

@@ -49,7 +49,8 @@ fn walk_line<'a>(
     requires going { Going t.now m }
     requires numbers_room { 785 ≤ length numbers.old }
     requires line_room { at + 256 ≤ length out.old }
-    ensures told { Tells (walk_lines base.now number (record_of t.now) m.reads m.walk) (to_come t.now result.next numbers.new) out.old at out.new result }
+    ensures told { Tells (walk_lines base.now number (record_of t.now) m.reads m.walk)
+        (to_come t.now result.next numbers.new) out.old at out.new result }
     ensures sound { Sound t.now result.next }
     ensures numbers_len_unchanged { length numbers.new ≡ length numbers.old }
 {
@@ -109,7 +110,8 @@ fn items_line<'a>(t: &'a [u8], m: Making, numbers: &mut [u64], out: &mut [u8], a
     requires going { Going t.now m }
     requires numbers_room { 785 ≤ length numbers.old }
     requires line_room { at + 256 ≤ length out.old }
-    ensures told { Tells (to_come_at t.now m numbers.old Items) (to_come t.now result.next numbers.new) out.old at out.new result }
+    ensures told { Tells (to_come_at t.now m numbers.old Items)
+        (to_come t.now result.next numbers.new) out.old at out.new result }
     ensures sound { Sound t.now result.next }
     ensures numbers_len_unchanged { length numbers.new ≡ length numbers.old }
 {
@@ -170,7 +172,8 @@ fn record_line(base: &[u8], number: RecordNumber, h: TableHeader, out: &mut [u8]
 fn based_line<'a>(t: &'a [u8], h: TableHeader, out: &mut [u8], at: usize) -> Told
     requires checked { table_of t.now ≡ gives h }
     requires line_room { at + 256 ≤ length out.old }
-    ensures told { (ns : List ℕ) → Tells (base_lines t.now h (base_of t.now)) (to_come t.now result.next ns) out.old at out.new result }
+    ensures told { (ns : List ℕ) → Tells (base_lines t.now h (base_of t.now)) (to_come t.now result.next ns)
+        out.old at out.new result }
     ensures sound { Sound t.now result.next }
 {
     match table::base_row(h) {
@@ -203,7 +206,8 @@ pub fn next<'a>(t: &'a [u8], m: Making, numbers: &mut [u64], out: &mut [u8], at:
     requires stands { Sound t.now m }
     requires numbers_room { 785 ≤ length numbers.old }
     requires line_room { at + 256 ≤ length out.old }
-    ensures told { Tells (to_come t.now m numbers.old) (to_come t.now result.next numbers.new) out.old at out.new result }
+    ensures told { Tells (to_come t.now m numbers.old)
+        (to_come t.now result.next numbers.new) out.old at out.new result }
     ensures sound { Sound t.now result.next }
     ensures numbers_len_unchanged { length numbers.new ≡ length numbers.old }
 {
@@ -230,11 +234,13 @@ fn is_more(m: Making) -> bool
     !matches!(m.stage, Stage::Done)
 }
 
-// Line after line from the front of a buffer, as long as there is room for the longest; `more` says that there are lines to come.
+// Line after line from the front of a buffer, as long as there is room for the longest; `more` says that there are
+// lines to come.
 pub fn fill<'a>(t: &'a [u8], m: Making, numbers: &mut [u64], out: &mut [u8]) -> Told
     requires stands { Sound t.now m }
     requires numbers_room { 785 ≤ length numbers.old }
-    ensures told { Pages (page_of (length out.old) (to_come t.now m numbers.old)) (to_come t.now result.next numbers.new) out.old out.new result }
+    ensures told { Pages (page_of (length out.old) (to_come t.now m numbers.old))
+        (to_come t.now result.next numbers.new) out.old out.new result }
     ensures sound { Sound t.now result.next }
     ensures numbers_len_unchanged { length numbers.new ≡ length numbers.old }
 {

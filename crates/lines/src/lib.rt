@@ -11,7 +11,8 @@ ghost use Rattle.lines.specs.Pages.{page_of, Lists};
 use table::TableHeader;
 use turns::State;
 
-// Where a listing stands: before its first line, among its items, before the line that says by which number it is refused, or behind its last line.
+// Where a listing stands: before its first line, among its items, before the line that says by which number it is
+// refused, or behind its last line.
 #[derive(Clone, Copy)]
 pub enum Stage {
     Start,
@@ -20,7 +21,8 @@ pub enum Stage {
     Done,
 }
 
-// A listing that is being made. Among its items: the table's numbers, the walk, what was read so far, and how many of the last item's
+// A listing that is being made. Among its items: the table's numbers, the walk, what was read so far, and how many of
+// the last item's
 // parts have their lines already, of how many. Elsewhere these mean nothing but for the reads.
 #[derive(Clone, Copy)]
 pub struct Making {
@@ -32,7 +34,8 @@ pub struct Making {
     pub count: usize,
 }
 
-// What a call told: where the text now ends, and the listing from there on. `more` says of one line that there was one, of a page that more is to come.
+// What a call told: where the text now ends, and the listing from there on. `more` says of one line that there was
+// one, of a page that more is to come.
 #[derive(Clone, Copy)]
 pub struct Told {
     pub next: Making,
@@ -71,7 +74,8 @@ pub struct Listed {
     pub more: bool,
 }
 
-// The listing of a table, into a lent buffer: all of it, or its first lines where 256 bytes are not left for the next one.
+// The listing of a table, into a lent buffer: all of it, or its first lines where 256 bytes are not left for the next
+// one.
 pub fn list<'a>(t: &'a [u8], out: &mut [u8]) -> Listed
     ensures { Lists (page_of (length out.old) (listing_of t.now)) out.old out.new result }
 {

@@ -16,7 +16,8 @@ row_at-r-requires c =
 pub returns-in-None-clause-told : goal.returns-in-None-clause-told
 unfolding base_lines table_refused
 returns-in-None-clause-told c ns =
-    refused_told _ ns _ (ap (base_lines c.args.t.now c.args.h) (base-none (sound _ _ c.requires.checked) (sym c.in-None.ensures)))
+    refused_told _ ns _ (ap (base_lines c.args.t.now c.args.h)
+    (base-none (sound _ _ c.requires.checked) (sym c.in-None.ensures)))
     c.refused.ensures.put c.refused.ensures.value
 
 pub returns-in-Some-clause-told : goal.returns-in-Some-clause-told

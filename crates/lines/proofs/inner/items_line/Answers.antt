@@ -14,5 +14,6 @@ row_at-r-requires c = row_inside (sound _ _ c.requires.going.table) _ c.requires
 
 pub returns-clause-told : goal.returns-clause-told
 returns-clause-told c =
-    walked_told _ _ c.requires.going _ _ _ c.if-m.false c.record_at-base.ensures (ap (λ (r : Row). r.number) c.row_at-r.ensures)
+    walked_told _ _ c.requires.going _ _ _ c.if-m.false c.record_at-base.ensures
+    (ap (λ (r : Row). r.number) c.row_at-r.ensures)
     c.walk_line.ensures.told

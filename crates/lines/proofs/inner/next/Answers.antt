@@ -6,7 +6,8 @@ use Rattle.lines.proofs.inner.next.Goals as goal
 pub returns-in-Start-clause-told : goal.returns-in-Start-clause-told
 unfolding to_come_at
 returns-in-Start-clause-told c =
-    tells_of (come_at c.args.t.now c.args.m c.args.numbers.now c.in-Start.is) (c.first_line.ensures.told c.args.numbers.now)
+    tells_of (come_at c.args.t.now c.args.m c.args.numbers.now c.in-Start.is)
+    (c.first_line.ensures.told c.args.numbers.now)
 
 pub returns-in-Items-clause-told : goal.returns-in-Items-clause-told
 returns-in-Items-clause-told c =
@@ -15,7 +16,8 @@ returns-in-Items-clause-told c =
 pub returns-in-Stopped-clause-told : goal.returns-in-Stopped-clause-told
 unfolding to_come_at
 returns-in-Stopped-clause-told c =
-    last_told _ _ _ _ _ _ c.done.ensures (sym (come_at c.args.t.now c.args.m c.args.numbers.now c.in-Stopped.is)) c.stopped_line-end.ensures
+    last_told _ _ _ _ _ _ c.done.ensures (sym (come_at c.args.t.now c.args.m c.args.numbers.now c.in-Stopped.is))
+    c.stopped_line-end.ensures
 
 pub returns-in-Done-clause-told : goal.returns-in-Done-clause-told
 unfolding to_come_at

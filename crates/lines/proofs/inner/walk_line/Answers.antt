@@ -11,11 +11,13 @@ item_line-l-requires-clause-ready c = based_ready _ _ _ _ c.requires.based c.req
 
 pub item_line-l-requires-clause-lies : goal.item_line-l-requires-clause-lies
 item_line-l-requires-clause-lies c =
-    based_item _ _ _ _ c.requires.based c.requires.going c.next-n.result _ _ c.next-n.ensures.result_value c.in-Ok-Some.is refl
+    based_item _ _ _ _ c.requires.based c.requires.going c.next-n.result _ _ c.next-n.ensures.result_value
+    c.in-Ok-Some.is (rw c.in-Ok-Some.field-0-is)
 
 pub returns-in-Ok-None-clause-told : goal.returns-in-Ok-None-clause-told
 returns-in-Ok-None-clause-told c =
-    last_told _ _ _ _ _ _ c.done.ensures (walk_ends _ _ _ _ _ c.next-n.result _ c.next-n.ensures.result_value c.in-Ok-None.is refl)
+    last_told _ _ _ _ _ _ c.done.ensures (walk_ends _ _ _ _ _ c.next-n.result _ c.next-n.ensures.result_value
+    c.in-Ok-None.is (rw c.in-Ok-None.field-0-is))
     c.end_line-end.ensures
 
 pub returns-in-Err-clause-told : goal.returns-in-Err-clause-told
@@ -27,13 +29,15 @@ returns-in-Err-clause-told c =
 pub returns-in-Ok-Some-clause-told : goal.returns-in-Ok-Some-clause-told
 returns-in-Ok-Some-clause-told c =
     tells _ _ refl
-    (based_comes _ _ _ _ c.requires.based c.requires.going c.next-n.result _ _ c.next-n.ensures.result_value c.in-Ok-Some.is refl
+    (based_comes _ _ _ _ c.requires.based c.requires.going c.next-n.result _ _ c.next-n.ensures.result_value
+    c.in-Ok-Some.is (rw c.in-Ok-Some.field-0-is)
     _ _ c.item_line-l.ensures.parts c.next-n.ensures.reads_le_most_reads c.item_line-l.ensures.few_reads
     c.item_line-l.ensures.few_parts).0
     c.item_line-l.ensures.line
 
 pub returns-in-Ok-Some-clause-sound : goal.returns-in-Ok-Some-clause-sound
 returns-in-Ok-Some-clause-sound c =
-    (based_comes _ _ _ _ c.requires.based c.requires.going c.next-n.result _ _ c.next-n.ensures.result_value c.in-Ok-Some.is refl
+    (based_comes _ _ _ _ c.requires.based c.requires.going c.next-n.result _ _ c.next-n.ensures.result_value
+    c.in-Ok-Some.is (rw c.in-Ok-Some.field-0-is)
     _ _ c.item_line-l.ensures.parts c.next-n.ensures.reads_le_most_reads c.item_line-l.ensures.few_reads
     c.item_line-l.ensures.few_parts).1
