@@ -1,9 +1,9 @@
 // A call of the layers `fields`, `raw` and `reader`, and its answer as a line of words and decimal numbers, for each kind of question.
-use fields::{HeaderRead, Opened, RecordHeader, RecordNumber};
-use raw::{Attribute, Checked, RawStep};
+use fields::{RecordHeader, RecordNumber, Refusal};
+use raw::Attribute;
 use std::io;
 use std::io::Write;
-use values::{FullHeader, NonResidentHeader, ResidentHeader, Span, Spanned, Valued};
+use values::{FullHeader, NonResidentHeader, ResidentHeader, Span, ValuePlace};
 use words::{say, tell, tell_bytes, tell_one, tell_refused};
 
 fn put_header(out: &mut impl Write, f: RecordHeader) -> io::Result<()> {
@@ -20,8 +20,8 @@ fn put_header(out: &mut impl Write, f: RecordHeader) -> io::Result<()> {
 
 pub fn tell_header(out: &mut impl Write, s: &[u8], number: RecordNumber) -> io::Result<()> {
     match fields::header(s, number) {
-        HeaderRead::Refused(r) => tell_refused(out, r, b'\n'),
-        HeaderRead::Fields(f) => put_header(out, f),
+        Err(r) => tell_refused(out, r, b'\n'),
+        Ok(f) => put_header(out, f),
     }
 }
 
@@ -32,8 +32,8 @@ pub fn tell_opening(
     place: usize,
 ) -> io::Result<()> {
     match fields::opening_in(s, number, place) {
-        Opened::Passed => say(out, "passed", b'\n'),
-        Opened::Refused(r) => tell_refused(out, r, b'\n'),
+        Ok(()) => say(out, "passed", b'\n'),
+        Err(r) => tell_refused(out, r, b'\n'),
     }
 }
 
@@ -60,18 +60,18 @@ fn put_attribute(out: &mut impl Write, h: Attribute) -> io::Result<()> {
     tell(out, "attribute", &numbers, b'\n')
 }
 
-fn put_step(out: &mut impl Write, a: RawStep) -> io::Result<()> {
+fn put_step(out: &mut impl Write, a: Result<Option<Attribute>, Refusal>) -> io::Result<()> {
     match a {
-        RawStep::Given(h) => put_attribute(out, h),
-        RawStep::End => say(out, "end", b'\n'),
-        RawStep::Refused(r) => tell_refused(out, r, b'\n'),
+        Ok(Some(h)) => put_attribute(out, h),
+        Ok(None) => say(out, "end", b'\n'),
+        Err(r) => tell_refused(out, r, b'\n'),
     }
 }
 
-fn put_checked(out: &mut impl Write, a: Checked) -> io::Result<()> {
+fn put_checked(out: &mut impl Write, a: Result<Attribute, Refusal>) -> io::Result<()> {
     match a {
-        Checked::Given(h) => put_attribute(out, h),
-        Checked::Refused(r) => tell_refused(out, r, b'\n'),
+        Ok(h) => put_attribute(out, h),
+        Err(r) => tell_refused(out, r, b'\n'),
     }
 }
 
@@ -115,7 +115,7 @@ pub fn tell_walk(out: &mut impl Write, s: &[u8], number: RecordNumber) -> io::Re
     loop {
         let a = raw::step(s, number, at);
         put_step(out, a)?;
-        let RawStep::Given(h) = a else {
+        let Ok(Some(h)) = a else {
             return Ok(());
         };
         at += h.length;
@@ -127,10 +127,10 @@ fn put_span(out: &mut impl Write, word: &str, p: Span) -> io::Result<()> {
     tell(out, word, &[p.from as u64, p.bytes as u64], b'\n')
 }
 
-fn put_spanned(out: &mut impl Write, p: Spanned) -> io::Result<()> {
+fn put_spanned(out: &mut impl Write, p: Result<Span, Refusal>) -> io::Result<()> {
     match p {
-        Spanned::At(p) => put_span(out, "span", p),
-        Spanned::Refused(r) => tell_refused(out, r, b'\n'),
+        Ok(p) => put_span(out, "span", p),
+        Err(r) => tell_refused(out, r, b'\n'),
     }
 }
 
@@ -143,8 +143,8 @@ pub fn tell_list(
     place: usize,
 ) -> io::Result<()> {
     match raw::attribute_at(s, number, place) {
-        Checked::Refused(r) => tell_refused(out, r, b'\n'),
-        Checked::Given(h) => put_spanned(out, values::inner::list_of(s, number, h)),
+        Err(r) => tell_refused(out, r, b'\n'),
+        Ok(h) => put_spanned(out, values::inner::list_of(s, number, h)),
     }
 }
 
@@ -189,9 +189,9 @@ pub fn tell_full(
     place: usize,
 ) -> io::Result<()> {
     match values::full(s, number, place) {
-        FullHeader::Refused(r) => tell_refused(out, r, b'\n'),
-        FullHeader::Resident(f) => put_resident(out, f),
-        FullHeader::NonResident(f) => put_non_resident(out, f),
+        Err(r) => tell_refused(out, r, b'\n'),
+        Ok(FullHeader::Resident(f)) => put_resident(out, f),
+        Ok(FullHeader::NonResident(f)) => put_non_resident(out, f),
     }
 }
 
@@ -208,9 +208,9 @@ pub fn tell_value(
     place: usize,
 ) -> io::Result<()> {
     match values::value(s, number, place) {
-        Valued::Refused(r) => tell_refused(out, r, b'\n'),
-        Valued::Resident(p) => put_span(out, "value resident", p),
-        Valued::Runs(p, size) => put_runs(out, p, size),
+        Err(r) => tell_refused(out, r, b'\n'),
+        Ok(ValuePlace::Resident(p)) => put_span(out, "value resident", p),
+        Ok(ValuePlace::Runs(p, size)) => put_runs(out, p, size),
     }
 }
 

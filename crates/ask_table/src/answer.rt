@@ -1,11 +1,10 @@
 // A call of the layers `list` and `table`, and its answer as a line of words and decimal numbers, for each kind of question.
-use fields::RecordNumber;
 use fields::inner::u32_at;
-use list::{Entry, EntryStep};
-use lookup::Looked;
+use fields::{RecordNumber, Refusal};
+use list::Entry;
 use std::io;
 use std::io::Write;
-use table::{TableHeader, RowFound, Tested};
+use table::TableHeader;
 use words::{say, tell, tell_bytes, tell_one, tell_refused};
 
 fn put_entry(out: &mut impl Write, e: Entry, last: u8) -> io::Result<()> {
@@ -20,11 +19,11 @@ fn put_entry(out: &mut impl Write, e: Entry, last: u8) -> io::Result<()> {
     tell(out, "entry", &numbers, last)
 }
 
-fn put_step(out: &mut impl Write, a: EntryStep, last: u8) -> io::Result<()> {
+fn put_step(out: &mut impl Write, a: Result<Option<Entry>, Refusal>, last: u8) -> io::Result<()> {
     match a {
-        EntryStep::Given(e) => put_entry(out, e, last),
-        EntryStep::End => say(out, "end", last),
-        EntryStep::Refused(r) => tell_refused(out, r, last),
+        Ok(Some(e)) => put_entry(out, e, last),
+        Ok(None) => say(out, "end", last),
+        Err(r) => tell_refused(out, r, last),
     }
 }
 
@@ -49,10 +48,10 @@ pub fn tell_listed(
     tell_bytes(out, "name", &l.name)
 }
 
-fn put_row(out: &mut impl Write, r: RowFound) -> io::Result<()> {
+fn put_row(out: &mut impl Write, r: Option<usize>) -> io::Result<()> {
     match r {
-        RowFound::At(i) => tell_one(out, "row", i as u64, b'\n'),
-        RowFound::Missing => say(out, "none", b'\n'),
+        Some(i) => tell_one(out, "row", i as u64, b'\n'),
+        None => say(out, "none", b'\n'),
     }
 }
 
@@ -82,10 +81,10 @@ fn put_numbers(out: &mut impl Write, h: TableHeader) -> io::Result<()> {
     tell(out, "table", &numbers, b'\n')
 }
 
-fn put_tested(out: &mut impl Write, a: Tested) -> io::Result<()> {
+fn put_tested(out: &mut impl Write, a: Result<TableHeader, Refusal>) -> io::Result<()> {
     match a {
-        Tested::Sound(h) => put_numbers(out, h),
-        Tested::Refused(r) => tell_refused(out, r, b'\n'),
+        Ok(h) => put_numbers(out, h),
+        Err(r) => tell_refused(out, r, b'\n'),
     }
 }
 
@@ -111,8 +110,8 @@ pub fn tell_lookup<'a>(
     place: usize,
 ) -> io::Result<()> {
     match lookup::lookup(s, number, t, wanted, place) {
-        Looked::Found => say(out, "found", b'\n'),
-        Looked::Refused(r) => tell_refused(out, r, b'\n'),
+        Ok(()) => say(out, "found", b'\n'),
+        Err(r) => tell_refused(out, r, b'\n'),
     }
 }
 

@@ -1,8 +1,7 @@
 // An item's line and the numbers of its part lines, for callers that walk a table that passed its check.
 ghost use Rattle.std.specs.Prelude.{◌≡◌, ◌++◌, ◌+◌, ◌*◌, ◌≤◌, ◌<◌, eqb, length, take};
+ghost use Rattle.fields.specs.Answer.{told};
 ghost use Rattle.fields.specs.Pick.{pick};
-ghost use Rattle.values.specs.Span.{told_spanned};
-ghost use Rattle.values.specs.Value.{told_valued};
 ghost use Rattle.table.specs.Held.{record_of};
 ghost use Rattle.turns.specs.State.{Ready, Lies};
 ghost use Rattle.parts.specs.Parts.{parts_from, parts_in};
@@ -11,20 +10,19 @@ ghost use Rattle.line.specs.Lines.{part_numbers};
 ghost use Rattle.gather.specs.Gather.{name_for, value_for, parts_for, item_line, Gathers};
 
 use crate::Lined;
-use fields::RecordNumber;
+use fields::{RecordNumber, Refusal};
 use line::Gathered;
-use lookup::Placed;
 use part::Part;
 use parts::{Cursor, PartKind};
 use table::TableHeader;
 use turns::{Item, Rest};
-use values::{Spanned, Valued};
+use values::{Span, ValuePlace};
 
 // The name and the value of an item.
 #[derive(Clone, Copy)]
 struct Contents {
-    name: Spanned,
-    value: Valued,
+    name: Result<Span, Refusal>,
+    value: Result<ValuePlace, Refusal>,
 }
 
 // Both from one look at the item's record.
@@ -37,16 +35,16 @@ fn contents_of<'a>(
     i: Item,
 ) -> Contents
     requires { Ready base.now t.now h }
-    ensures name { told_spanned result.name ≡ name_for base.now number (record_of t.now) i }
-    ensures value { told_valued result.value ≡ value_for base.now number (record_of t.now) i }
+    ensures name { told result.name ≡ name_for base.now number (record_of t.now) i }
+    ensures value { told result.value ≡ value_for base.now number (record_of t.now) i }
 {
     let at = i.attribute.offset;
     match lookup::inner::lookup(base, number, t, h, i.file, 0) {
-        Placed::Refused(r) => Contents {
-            name: Spanned::Refused(r),
-            value: Valued::Refused(r),
+        Err(r) => Contents {
+            name: Err(r),
+            value: Err(r),
         },
-        Placed::At(q) => {
+        Ok(q) => {
             let s = lookup::inner::part(base, t, h, q);
             Contents {
                 name: values::name(s, i.file, at),
@@ -109,11 +107,11 @@ fn gather<'a>(
         list: l,
         key: turns::inner::no_key(),
     };
-    let answer = loop {
+    let answer = 'gathering: loop {
         let m = parts::inner::step(base, number, t, h, 157, count, c);
         reads += m.reads;
         match m.kind {
-            PartKind::Stops(a) => break a,
+            PartKind::Stops(a) => break 'gathering a,
             PartKind::Lists(p) => {
                 keep(numbers, count, p);
                 size = size_of(count, size, p);

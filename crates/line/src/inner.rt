@@ -1,18 +1,16 @@
 // The lines of the listing, each put behind the text so far, for callers that have shown that there is room. None is longer than 256 bytes.
 ghost use Rattle.std.specs.Prelude.{◌+◌, ◌≤◌, ◌≡◌, [], ◌∷◌, ◌++◌, length};
-ghost use Rattle.fields.specs.Pick.{pick};
 ghost use Rattle.fields.specs.Answer.{told};
-ghost use Rattle.values.specs.Span.{told_spanned};
-ghost use Rattle.values.specs.Value.{told_valued};
+ghost use Rattle.fields.specs.Pick.{pick};
 ghost use Rattle.text.specs.Put.{Put};
 ghost use Rattle.text.specs.Decimal.{numbers};
 ghost use Rattle.line.specs.Lines.{record_line, name_text, value_text, parts_text, attr_line, part_line_of, end_line, stopped_line, refused_line};
 
 use crate::Gathered;
-use fields::RecordNumber;
+use fields::{RecordNumber, Refusal};
 use text::inner::{put_byte, put_words};
 use turns::Item;
-use values::{Spanned, Valued};
+use values::{Span, ValuePlace};
 
 // A word and the number behind it.
 fn put_one(out: &mut [u8], at: usize, word: &[u8], n: u64) -> usize
@@ -41,25 +39,25 @@ pub fn record_line(out: &mut [u8], at: usize, number: RecordNumber, size: usize)
 }
 
 // name OFFSET BYTES, or name refused N
-fn put_name(out: &mut [u8], at: usize, name: Spanned) -> usize
+fn put_name(out: &mut [u8], at: usize, name: Result<Span, Refusal>) -> usize
     requires { at + 55 ≤ length out.old }
-    ensures { Put out.old at out.new result (name_text (told_spanned name)) 55 }
+    ensures { Put out.old at out.new result (name_text (told name)) 55 }
 {
     match name {
-        Spanned::Refused(r) => put_one(out, at, b" name refused", r.number as u64),
-        Spanned::At(p) => put_pair(out, at, b" name", p.from as u64, p.bytes as u64),
+        Err(r) => put_one(out, at, b" name refused", r.number as u64),
+        Ok(p) => put_pair(out, at, b" name", p.from as u64, p.bytes as u64),
     }
 }
 
 // value resident, value runs, or value refused
-fn put_value(out: &mut [u8], at: usize, value: Valued) -> usize
+fn put_value(out: &mut [u8], at: usize, value: Result<ValuePlace, Refusal>) -> usize
     requires { at + 79 ≤ length out.old }
-    ensures { Put out.old at out.new result (value_text (told_valued value)) 79 }
+    ensures { Put out.old at out.new result (value_text (told value)) 79 }
 {
     match value {
-        Valued::Refused(r) => put_one(out, at, b" value refused", r.number as u64),
-        Valued::Resident(p) => put_pair(out, at, b" value resident", p.from as u64, p.bytes as u64),
-        Valued::Runs(p, size) => {
+        Err(r) => put_one(out, at, b" value refused", r.number as u64),
+        Ok(ValuePlace::Resident(p)) => put_pair(out, at, b" value resident", p.from as u64, p.bytes as u64),
+        Ok(ValuePlace::Runs(p, size)) => {
             let end = put_pair(out, at, b" value runs", p.from as u64, p.bytes as u64);
             put_one(out, end, b" size", size)
         }
@@ -80,9 +78,9 @@ fn put_parts(out: &mut [u8], at: usize, g: Gathered) -> usize
 }
 
 // Its parts where an item has a list, else its value.
-fn put_contents(out: &mut [u8], at: usize, is: bool, g: Gathered, value: Valued) -> usize
+fn put_contents(out: &mut [u8], at: usize, is: bool, g: Gathered, value: Result<ValuePlace, Refusal>) -> usize
     requires { at + 79 ≤ length out.old }
-    ensures { Put out.old at out.new result (pick is (parts_text g.count g.size (told g.answer)) (value_text (told_valued value))) 79 }
+    ensures { Put out.old at out.new result (pick is (parts_text g.count g.size (told g.answer)) (value_text (told value))) 79 }
 {
     if is {
         return put_parts(out, at, g);
@@ -95,13 +93,13 @@ pub fn attr_line(
     out: &mut [u8],
     at: usize,
     i: Item,
-    name: Spanned,
+    name: Result<Span, Refusal>,
     g: Gathered,
-    value: Valued,
+    value: Result<ValuePlace, Refusal>,
 ) -> usize
     requires { at + 256 ≤ length out.old }
     ensures { Put out.old at out.new result
-        (attr_line i (name_text (told_spanned name)) (pick i.rest.is (parts_text g.count g.size (told g.answer)) (value_text (told_valued value)))) 256 }
+        (attr_line i (name_text (told name)) (pick i.rest.is (parts_text g.count g.size (told g.answer)) (value_text (told value)))) 256 }
 {
     let file = i.file;
     let h = i.attribute;

@@ -1,10 +1,9 @@
 // The calls of the item walk, and their answers as lines of words and decimal numbers.
 use crate::collected::{list_of, tell_parts};
-use fields::RecordNumber;
-use items::FirstItem;
+use fields::{RecordNumber, Refusal};
 use std::io;
 use std::io::Write;
-use turns::{Item, ItemStep, Key, State};
+use turns::{Item, Key, State};
 use words::{Question, say, tell, tell_one, tell_refused};
 
 fn put_item(out: &mut impl Write, i: Item) -> io::Result<()> {
@@ -23,11 +22,11 @@ fn put_item(out: &mut impl Write, i: Item) -> io::Result<()> {
     tell(out, "rest", &rest, b' ')
 }
 
-fn put_step(out: &mut impl Write, a: ItemStep) -> io::Result<()> {
+fn put_step(out: &mut impl Write, a: Result<Option<Item>, Refusal>) -> io::Result<()> {
     match a {
-        ItemStep::Given(i) => put_item(out, i),
-        ItemStep::End => say(out, "end", b' '),
-        ItemStep::Refused(r) => tell_refused(out, r, b' '),
+        Ok(Some(i)) => put_item(out, i),
+        Ok(None) => say(out, "end", b' '),
+        Err(r) => tell_refused(out, r, b' '),
     }
 }
 
@@ -96,10 +95,10 @@ fn tell_given<'a>(
     base: &'a [u8],
     number: RecordNumber,
     t: &'a [u8],
-    a: ItemStep,
+    a: Result<Option<Item>, Refusal>,
 ) -> io::Result<()> {
     match a {
-        ItemStep::Given(i) => tell_parts(out, base, number, t, i.rest),
+        Ok(Some(i)) => tell_parts(out, base, number, t, i.rest),
         _ => Ok(()),
     }
 }
@@ -120,10 +119,10 @@ pub fn tell_walk<'a>(
     Ok(())
 }
 
-fn put_first(out: &mut impl Write, a: FirstItem) -> io::Result<()> {
+fn put_first(out: &mut impl Write, a: Result<Item, Refusal>) -> io::Result<()> {
     match a {
-        FirstItem::Given(i) => put_item(out, i),
-        FirstItem::Refused(r) => tell_refused(out, r, b' '),
+        Ok(i) => put_item(out, i),
+        Err(r) => tell_refused(out, r, b' '),
     }
 }
 

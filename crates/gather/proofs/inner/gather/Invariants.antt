@@ -5,8 +5,8 @@ use Rattle.gather.proofs.Gathers.{Gathering}
 use Rattle.gather.proofs.inner.gather.Given as goal
 
 -- the numbers of the parts so far stand in front, and the rest of the list follows from the cursor on
-abbrev pub invariant-loop-a : goal.invariant-loop-a
-invariant-loop-a l = (ps : List Part) × Gathering l.base l.number (record_of l.t) l.fn.l ps l.count l.size l.reads l.c l.numbers
+abbrev pub invariant-gathering : goal.invariant-gathering
+invariant-gathering l = (ps : List Part) × Gathering l.base l.number (record_of l.t) l.fn.l ps l.count l.size l.reads l.c l.numbers
 
-abbrev pub decreases-loop-a : goal.decreases-loop-a
-decreases-loop-a l = l.c.list.to - l.c.list.from
+abbrev pub decreases-gathering : goal.decreases-gathering
+decreases-gathering l = l.c.list.to - l.c.list.from

@@ -4,10 +4,10 @@ use Rattle.text.proofs.Puts.{said}
 use Rattle.line.specs.Lines.{name_text}
 use Rattle.line.proofs.inner.put_name.Goals as goal
 
-pub returns-in-Refused : goal.returns-in-Refused
+pub returns-in-Err : goal.returns-in-Err
 unfolding name_text word bytes_from
-returns-in-Refused c = rw c.in-Refused.is (said c.put_one.ensures refl (omega arith))
+returns-in-Err c = rw c.in-Err.is (said c.put_one.ensures refl (omega arith))
 
-pub returns-in-At : goal.returns-in-At
+pub returns-in-Ok : goal.returns-in-Ok
 unfolding name_text word bytes_from
-returns-in-At c = rw c.in-At.is (said c.put_pair.ensures refl (omega arith))
+returns-in-Ok c = rw c.in-Ok.is (said c.put_pair.ensures refl (omega arith))

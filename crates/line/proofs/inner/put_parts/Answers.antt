@@ -4,10 +4,10 @@ use Rattle.text.proofs.Puts.{both, said}
 use Rattle.line.specs.Lines.{parts_text}
 use Rattle.line.proofs.inner.put_parts.Goals as goal
 
-pub returns-in-Whole : goal.returns-in-Whole
+pub returns-in-Ok : goal.returns-in-Ok
 unfolding parts_text word bytes_from
-returns-in-Whole c = rw c.in-Whole.is (said (both c.put_one-end.ensures c.put_one.ensures) refl (omega arith))
+returns-in-Ok c = rw c.in-Ok.is (said (both c.put_one-end.ensures c.put_one.ensures) refl (omega arith))
 
-pub returns-in-Refused : goal.returns-in-Refused
+pub returns-in-Err : goal.returns-in-Err
 unfolding parts_text word bytes_from
-returns-in-Refused c = rw c.in-Refused.is (said (both c.put_one-end.ensures c.put_one-in-Refused.ensures) refl (omega arith))
+returns-in-Err c = rw c.in-Err.is (said (both c.put_one-end.ensures c.put_one-in-Err.ensures) refl (omega arith))

@@ -4,14 +4,14 @@ use Rattle.text.proofs.Puts.{both, said}
 use Rattle.line.specs.Lines.{value_text}
 use Rattle.line.proofs.inner.put_value.Goals as goal
 
-pub returns-in-Refused : goal.returns-in-Refused
+pub returns-in-Err : goal.returns-in-Err
 unfolding value_text word bytes_from
-returns-in-Refused c = rw c.in-Refused.is (said c.put_one.ensures refl (omega arith))
+returns-in-Err c = rw c.in-Err.is (said c.put_one.ensures refl (omega arith))
 
-pub returns-in-Resident : goal.returns-in-Resident
+pub returns-in-Ok-Resident : goal.returns-in-Ok-Resident
 unfolding value_text word bytes_from
-returns-in-Resident c = rw c.in-Resident.is (said c.put_pair.ensures refl (omega arith))
+returns-in-Ok-Resident c = rw c.in-Ok-Resident.is (said c.put_pair.ensures refl (omega arith))
 
-pub returns-in-Runs : goal.returns-in-Runs
+pub returns-in-Ok-Runs : goal.returns-in-Ok-Runs
 unfolding value_text word bytes_from
-returns-in-Runs c = rw c.in-Runs.is (said (both c.put_pair-end.ensures c.put_one-in-Runs.ensures) refl (omega arith))
+returns-in-Ok-Runs c = rw c.in-Ok-Runs.is (said (both c.put_pair-end.ensures c.put_one-in-Ok-Runs.ensures) refl (omega arith))
