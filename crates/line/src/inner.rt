@@ -56,7 +56,13 @@ fn put_value(out: &mut [u8], at: usize, value: Result<ValuePlace, Refusal>) -> u
 {
     match value {
         Err(r) => put_one(out, at, b" value refused", r.number as u64),
-        Ok(ValuePlace::Resident(p)) => put_pair(out, at, b" value resident", p.from as u64, p.bytes as u64),
+        Ok(ValuePlace::Resident(p)) => put_pair(
+            out,
+            at,
+            b" value resident",
+            p.from as u64,
+            p.bytes as u64,
+        ),
         Ok(ValuePlace::Runs(p, size)) => {
             let end = put_pair(out, at, b" value runs", p.from as u64, p.bytes as u64);
             put_one(out, end, b" size", size)
@@ -78,7 +84,13 @@ fn put_parts(out: &mut [u8], at: usize, g: Gathered) -> usize
 }
 
 // Its parts where an item has a list, else its value.
-fn put_contents(out: &mut [u8], at: usize, is: bool, g: Gathered, value: Result<ValuePlace, Refusal>) -> usize
+fn put_contents(
+    out: &mut [u8],
+    at: usize,
+    is: bool,
+    g: Gathered,
+    value: Result<ValuePlace, Refusal>,
+) -> usize
     requires { at + 79 ≤ length out.old }
     ensures { Put out.old at out.new result (pick is (parts_text g.count g.size (told g.answer)) (value_text (told value))) 79 }
 {
