@@ -31,7 +31,13 @@ fn no_part(n: u8, number: RecordNumber, place: usize) -> Result<Part, Refusal>
 // Whether an entry goes on with the stream of a key: it does, the parts end, or 6.
 // The part that begins at the entry is there for keys that hold a name.
 #[tactic(auto, unfolding(crate::specs::Join::judge_part))]
-pub fn judge_part(key: Key, e: Entry, part: &[u8], number: RecordNumber, place: usize) -> Result<bool, Refusal>
+pub fn judge_part(
+    key: Key,
+    e: Entry,
+    part: &[u8],
+    number: RecordNumber,
+    place: usize,
+) -> Result<bool, Refusal>
     ensures { told_joined result ≡ judge_part key e part.now number place }
 {
     if e.instance != key.instance {
