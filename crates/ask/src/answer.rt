@@ -112,7 +112,7 @@ pub fn tell_search(
 #[tactic(auto, using(raw::proofs::Given::step_given))]
 pub fn tell_walk(out: &mut impl Write, s: &[u8], number: RecordNumber) -> io::Result<()> {
     let mut at = fields::first_attribute(s);
-    loop {
+    'walk: loop {
         let a = raw::step(s, number, at);
         put_step(out, a)?;
         let Ok(Some(h)) = a else {

@@ -2,5 +2,5 @@
 use Rattle.std.proofs.Common.{◌-◌, length}
 use Rattle.ask.proofs.answer.tell_walk.Given as goal
 
-abbrev pub decreases-loop-h : goal.decreases-loop-h
-decreases-loop-h g l = length l.s - l.at
+abbrev pub decreases-walk : goal.decreases-walk
+decreases-walk g l = length l.s - l.at
