@@ -11,7 +11,6 @@ use Rattle.part.specs.declared.Part.{Part}
 use Rattle.parts.specs.declared.Cursor.{Cursor}
 use Rattle.parts.proofs.Fills.{Filling, stopped, filled_so}
 use Rattle.lent.specs.Lent.{Fills}
-use Rattle.lent.specs.declared.Filled.{Filled}
 
 module _ (s : List ℕ) (n : RecordNumber) (look : RecordNumber → Option (List ℕ)) (room : ℕ)
     (l : Rest) (before parts : List Part) (count reads : ℕ) (c : Cursor) where

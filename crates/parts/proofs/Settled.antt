@@ -1,6 +1,6 @@
 -- Two results that both meet the contract of `collect` are equal: which parts, how many,
 -- how they end and what was read are all told.
-use mathlib.Core.Path.{◌≡◌, refl, sym, ap, ◌∙◌}
+use mathlib.Core.Path.{◌≡◌, sym, ap, ◌∙◌}
 use mathlib.Core.List.{List}
 use Prim.Native.Nat.{ℕ}
 use Rattle.std.specs.Prelude.{Result}
