@@ -95,13 +95,11 @@ pub record Tells (before after : List Text) (d : List ℕ) (at : ℕ) (e : List 
 
 -- behind the last line
 abbrev pub ending : TableHeader → State → ℕ → Told
-ending h w end =
-    record {
-      next = record { stage = stage.Done; h = h; walk = w; reads = 0; shown = 0; count = 0 };
-      end = end;
-      more =
-          true;
-    }
+ending h w end = record {
+  next = record { stage = stage.Done; h = h; walk = w; reads = 0; shown = 0; count = 0 };
+  end = end;
+  more = true;
+}
 
 -- behind the line of one more part
 abbrev pub showing : Making → ℕ → Told
@@ -128,10 +126,8 @@ stage_of ends = stage.Done
 stage_of (refuses r) = stage.Stopped r.number
 
 abbrev pub beginning : TableHeader → List ℕ → Answer Unit → ℕ → Told
-beginning h s a end =
-    record {
-      next = record { stage = stage_of a; h = h; walk = fresh_of s; reads = 0; shown = 0; count = 0 };
-      end =
-          end;
-      more = true;
-    }
+beginning h s a end = record {
+  next = record { stage = stage_of a; h = h; walk = fresh_of s; reads = 0; shown = 0; count = 0 };
+  end = end;
+  more = true;
+}

@@ -13,14 +13,14 @@ item_line-l-requires-clause-ready c = based_ready _ _ _ _ c.requires.based c.req
 pub item_line-l-requires-clause-lies : goal.item_line-l-requires-clause-lies
 item_line-l-requires-clause-lies c =
     let answered : told_step c.next-n.result.answer ≡ gives c.in-Ok-Some.i =
-        rw (c.in-Ok-Some.is, (rw c.in-Ok-Some.is at c.in-Ok-Some.field-0-is)) in
+    rw (c.in-Ok-Some.is, (rw c.in-Ok-Some.is at c.in-Ok-Some.field-0-is)) in
     based_item _ _ _ _ c.requires.based c.requires.going c.next-n.result _ _ c.next-n.ensures.result_value
     refl answered
 
 pub returns-in-Ok-None-clause-told : goal.returns-in-Ok-None-clause-told
 returns-in-Ok-None-clause-told c =
     let answered : told_step c.next-n.result.answer ≡ ends =
-        rw (c.in-Ok-None.is, (rw c.in-Ok-None.is at c.in-Ok-None.field-0-is)) in
+    rw (c.in-Ok-None.is, (rw c.in-Ok-None.is at c.in-Ok-None.field-0-is)) in
     last_told _ _ _ _ _ _ c.done.ensures (walk_ends _ _ _ _ _ c.next-n.result _ c.next-n.ensures.result_value
     refl answered)
     c.end_line-end.ensures
@@ -34,7 +34,7 @@ returns-in-Err-clause-told c =
 pub returns-in-Ok-Some-clause-told : goal.returns-in-Ok-Some-clause-told
 returns-in-Ok-Some-clause-told c =
     let answered : told_step c.next-n.result.answer ≡ gives c.in-Ok-Some.i =
-        rw (c.in-Ok-Some.is, (rw c.in-Ok-Some.is at c.in-Ok-Some.field-0-is)) in
+    rw (c.in-Ok-Some.is, (rw c.in-Ok-Some.is at c.in-Ok-Some.field-0-is)) in
     tells _ _ refl
     (based_comes _ _ _ _ c.requires.based c.requires.going c.next-n.result _ _ c.next-n.ensures.result_value
     refl answered
@@ -45,7 +45,7 @@ returns-in-Ok-Some-clause-told c =
 pub returns-in-Ok-Some-clause-sound : goal.returns-in-Ok-Some-clause-sound
 returns-in-Ok-Some-clause-sound c =
     let answered : told_step c.next-n.result.answer ≡ gives c.in-Ok-Some.i =
-        rw (c.in-Ok-Some.is, (rw c.in-Ok-Some.is at c.in-Ok-Some.field-0-is)) in
+    rw (c.in-Ok-Some.is, (rw c.in-Ok-Some.is at c.in-Ok-Some.field-0-is)) in
     (based_comes _ _ _ _ c.requires.based c.requires.going c.next-n.result _ _ c.next-n.ensures.result_value
     refl answered
     _ _ c.item_line-l.ensures.parts c.next-n.ensures.reads_le_most_reads c.item_line-l.ensures.few_reads
