@@ -15,6 +15,10 @@ import reading
 
 ROOT = os.path.dirname(os.path.dirname(os.path.abspath(__file__)))
 
+# The program that is asked, and where the kinds of question of each test begin.
+PROGRAM = "ask"
+ON_RECORDS, ON_TABLES, ON_ITEMS, ON_PARTS = 0, 16, 23, 27
+
 LAST = 2 ** 64 - 1
 
 
@@ -47,7 +51,20 @@ def run(name, text):
         return written.read().decode("latin-1")
 
 
-# A question's head, as crates/words reads it.
+# What rt ci runs the program on: the files stdin and stdout of its crate, which samples.py writes. Each test's own questions stand
+# there, those of one test behind those of another.
+SAMPLE_FILES = tuple(os.path.join(ROOT, "crates", PROGRAM, name) for name in ("stdin", "stdout"))
+
+
+def hold_samples(texts):
+    """That a test's questions, and its answers, stand in those files."""
+    for path, text in zip(SAMPLE_FILES, texts):
+        with open(path, "rb") as given:
+            if text not in given.read():
+                sys.exit("%s is not what `python3 tests/samples.py` writes" % os.path.relpath(path, ROOT))
+
+
+# A question's head, as crates/ask/src/question.rt reads it.
 HEAD = struct.Struct("<BQQQBQQBIHHII")
 # How many bytes a question's record and table may have together.
 ROOM = 131072
@@ -100,9 +117,11 @@ def end_of_line(text, at):
 class Asker:
     """Gathers questions with their expected answers, asks them in batches, and stops the test at a difference.
 
-    A test says which program answers (PROGRAM), its calls by the kind of question (CALLS), how a question is packed and shown,
-    and what is expected.
+    A test says its calls by the kind of question (CALLS), where these kinds begin among the program's (FIRST_KIND), how a
+    question is packed and shown, and what is expected.
     """
+
+    PROGRAM = PROGRAM
 
     BATCH = 32_000_000
 
@@ -150,10 +169,10 @@ class Asker:
         self.ask(q, self.expected(q))
 
     def put_literal_question(self, answer, q):
-        """An answer that the document gives itself: neither the program nor the second reading may differ."""
+        """An answer that follows from the rules by hand: neither the program nor the second reading may differ."""
         read = self.expected(q)
         if read != answer:
-            sys.exit("the second reading differs from the document: %s, %r for %r" % (self.shown(q), read, answer))
+            sys.exit("the second reading differs from what was made by hand: %s, %r for %r" % (self.shown(q), read, answer))
         self.ask(q, answer)
 
     def flush(self):
@@ -251,22 +270,6 @@ class Asker:
             text = run(self.PROGRAM, whole + whole[:cut])
             self.stop_at(self.differences([q], [self.expected(q)], text), 1)
 
-    # What rt ci runs the program on is what its test asks: the files stdin and stdout of the program's crate.
-
-    def sample_files(self, questions):
-        folder = os.path.join(ROOT, "crates", self.PROGRAM)
-        return (
-            (os.path.join(folder, "stdin"), b"".join(map(self.packed, questions))),
-            (os.path.join(folder, "stdout"), "".join(self.expected(q) + "\n" for q in questions).encode("latin-1")),
-        )
-
-    def write_samples(self, questions):
-        for path, text in self.sample_files(questions):
-            with open(path, "wb") as out:
-                out.write(text)
-
-    def samples(self, questions, writer):
-        for path, text in self.sample_files(questions):
-            with open(path, "rb") as given:
-                if given.read() != text:
-                    sys.exit("%s is not what `python3 %s sample` writes" % (os.path.relpath(path, ROOT), writer))
+    def sample_texts(self, questions):
+        """These questions, and the answers to them."""
+        return b"".join(map(self.packed, questions)), "".join(self.expected(q) + "\n" for q in questions).encode("latin-1")

@@ -30,7 +30,7 @@ SAMPLE = os.path.join(asking.ROOT, "crates", "listing")
 SEED = 20240618
 # seconds: a program that hangs is ended by this
 LONG = 20
-# "It lists a table of 64 records of 1,024 bytes well under a tenth of a second."
+# A table of 64 records of 1,024 bytes is listed well under a tenth of a second.
 QUICK = 0.05
 
 # What the kept listings must have between them: each refusal that a listing can print (tests/cases/README.md says which cannot).
@@ -137,7 +137,7 @@ def up_to_date(cases):
                 sys.exit("%s is not the case of tests/listing_cases.py" % name)
     sample = (read(SAMPLE, "stdin"), read(SAMPLE, "stdout"))
     if sample != (listing_cases.WHOLE, listing_cases.WHOLE_LISTING.encode()) or sample != cases["whole"]:
-        sys.exit("crates/listing/stdin and stdout are not document 01's whole case")
+        sys.exit("crates/listing/stdin and stdout are not the whole case of docs/RULES.md")
 
 
 def refusals(cases):

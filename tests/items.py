@@ -1,7 +1,6 @@
-"""Holds the item walk, as built, to the second reading of document 01 (walk_reading.py) and to answers of the Rust.
+"""Holds the item walk, as built, to the second reading of the rules (walk_reading.py) and to answers of the Rust.
 
-Every question goes to the program `walk` and every line that it writes is compared. Fails at any difference.
-The files stdin and stdout of the crate walk, which rt ci runs it on, begin with the sample of this test; parts.py writes them.
+Every question goes to the program `ask` and every line that it writes is compared. Fails at any difference.
 """
 import base64
 import os
@@ -21,7 +20,7 @@ from walk_reading import NO_KEY, NO_LIST, Key, Rest, State
 
 ROOT = asking.ROOT
 FRESH, NEXT, WALK, FIRST = KINDS = range(4)
-CALLS = ("items::fresh", "items::next", "items::next, from fresh on through refusals", "items::first_of")
+CALLS = ("State::fresh", "File::next", "File::next, from fresh on through refusals", "File::first_of")
 
 SEED = 20240507
 DAMAGED, RANDOM, CHAINED, LARGE = 15_000, 30_000, 10_000, 100
@@ -49,7 +48,7 @@ def packed(q):
     # one type serves the key of a state and the first of a type: no call has both
     is_, ty, instance = q.state.key
     key = is_, q.ty if q.kind == FIRST else ty, instance
-    return asking.question(q.kind, q.number, q.record, q.table, q.state.raw, rest=q.state.rest, key=key, most=q.turns)
+    return asking.question(asking.ON_ITEMS + q.kind, q.number, q.record, q.table, q.state.raw, rest=q.state.rest, key=key, most=q.turns)
 
 
 def expected(q):
@@ -77,7 +76,7 @@ def state_in(line):
 
 
 def ask(questions):
-    return asking.run("walk", b"".join(map(packed, questions)))
+    return asking.run(asking.PROGRAM, b"".join(map(packed, questions)))
 
 
 def cut(questions, text):
@@ -189,17 +188,17 @@ class Test(Asker):
         self.put(NEXT, record_, table_, number=number, state=states[-1])
 
     def literal(self, record_, table_, *lines, number=40, **more):
-        """Lines that follow from the document by hand: neither the program nor the second reading may differ."""
+        """Lines that follow from the rules by hand: neither the program nor the second reading may differ."""
         q = Question(WALK, record_, table_, number, **more)
         if expected(q) != list(lines):
-            sys.exit("the second reading differs from the document:\n%s\nfor\n%s" % ("\n".join(expected(q)), "\n".join(lines)))
+            sys.exit("the second reading differs from what was made by hand:\n%s\nfor\n%s" % ("\n".join(expected(q)), "\n".join(lines)))
         self.ask(q, list(lines))
         self.put_walk(record_, table_, number)
         self.put(FRESH, record_, table_, number=number)
         for ty in (0x10, 0x30, 0x80, 0x90, 0x20, 0, reading.MARKER):
             self.put(FIRST, record_, table_, number=number, ty=ty)
 
-    # The document's own words.
+    # The whole case (RULES 18), and what is easily got wrong.
 
     def whole_case(self):
         r = record(128, resident(16, 0, 32, 8), resident(128, 1), used=116)
@@ -211,7 +210,7 @@ class Test(Asker):
         )
 
     def slips(self):
-        # "Stopping at used size": the second attribute lies behind it
+        # the used size is not consulted: the second attribute lies behind it
         r = record(128, resident(16, 0, 32, 8), resident(128, 1), used=88)
         self.literal(
             r, table({40: r}),
@@ -225,14 +224,14 @@ class Test(Asker):
         self.literal(r, files(r, **others), FIRST_LINE, *lines)
 
     def orders(self):
-        # "Passing over a base-record entry before judging its type": 6, past it
+        # a base-record entry's type is judged before it is passed over: 6, past it
         self.listed(entry(0x11, 40), entry(0x80, 41, 1), lines=(
             "refused 6 40 104 left 160 1 130 156 0 0 0 reads 2",
             "item 41 56 128 24 1 1 rest 0 0 0 left 160 1 156 156 0 0 0 reads 2",
             "item 40 160 48 24 1 5 rest 0 0 0 left 184 0 0 0 0 0 0 reads 1",
             "end left 184 0 0 0 0 0 0 reads 0",
         ))
-        # "Clearing the skip key at a base-record entry": the third entry is passed over
+        # a base-record entry leaves the key: the third entry is passed over
         self.listed(entry(0x80, 41, 2), entry(0x10, 40), entry(0x80, 42, 2), entry(0x90, 42, 3), lines=(
             "item 41 80 128 64 0 2 rest 1 104 208 left 208 1 130 208 1 128 2 reads 4",
             "item 42 120 144 24 1 3 rest 0 0 0 left 208 1 208 208 0 0 0 reads 5",
@@ -254,7 +253,7 @@ class Test(Asker):
             "item 40 160 48 24 1 5 rest 0 0 0 left 184 0 0 0 0 0 0 reads 1",
             "end left 184 0 0 0 0 0 0 reads 0",
         ))
-        # two lists: "The skip key outlives a list"
+        # two lists: the key outlives a list
         r = based(list_of(entry(0x80, 41, 2)), list_of(entry(0x80, 42, 2), entry(0x90, 42, 3)))
         self.literal(
             r, files(r), FIRST_LINE,
@@ -669,20 +668,9 @@ def sample():
     return [counted(q, expected(q)) for q in questions]
 
 
-def sample_files():
-    """The front of the files that rt ci runs the program on."""
-    folder = os.path.join(ROOT, "crates", "walk")
-    return (
-        (os.path.join(folder, "stdin"), b"".join(map(packed, sample()))),
-        (os.path.join(folder, "stdout"), "".join(line + "\n" for q in sample() for line in expected(q)).encode()),
-    )
-
-
-def samples():
-    for path, text in sample_files():
-        with open(path, "rb") as given:
-            if not given.read().startswith(text):
-                sys.exit("%s is not what `python3 tests/parts.py sample` writes" % os.path.relpath(path, ROOT))
+def sample_texts():
+    """Its questions, and the answers to them."""
+    return b"".join(map(packed, sample())), "".join(line + "\n" for q in sample() for line in expected(q)).encode()
 
 
 def notices():
@@ -710,17 +698,17 @@ def cut_questions():
     whole = packed(q)
     answer = expected(q)[0] + "\n"
     for at in asking.cuts(q):
-        assert asking.run("walk", whole + whole[:at]) == answer
+        assert asking.run(asking.PROGRAM, whole + whole[:at]) == answer
     # a table that the program has no room for ends it too
     room = asking.ROOM - len(q.record)
-    assert asking.run("walk", packed(q._replace(table=bytes(room + 1))) + whole) == ""
-    assert asking.run("walk", packed(q._replace(table=bytes(room))) + whole).count("\n") == 2
+    assert asking.run(asking.PROGRAM, packed(q._replace(table=bytes(room + 1))) + whole) == ""
+    assert asking.run(asking.PROGRAM, packed(q._replace(table=bytes(room))) + whole).count("\n") == 2
 
 
 def main():
     sys.stdout.reconfigure(line_buffering=True)
     started = time.time()
-    samples()
+    asking.hold_samples(sample_texts())
     notices()
     cut_questions()
     rust_answers()

@@ -1,4 +1,4 @@
-"""The tables of tests/cases, made by hand, each with lines that its listing must have by document 01, counted by hand.
+"""The tables of tests/cases, made by hand, each with lines that its listing must have by the rules, counted by hand.
 
 tests/make_cases writes the folder from here; tests/cases.py holds the folder to it and the program to the folder.
 """
@@ -131,7 +131,7 @@ def tables():
 
 def walks():
     """The walk's refusals, in the base record and in a record looked up."""
-    yield Case("whole", WHOLE, "document 01's whole case", "end reads 2", tuple(WHOLE_LISTING.split("\n")[:3]))
+    yield Case("whole", WHOLE, "the whole case of the rules", "end reads 2", tuple(WHOLE_LISTING.split("\n")[:3]))
     yield Case("base-not-file", of(FRONT, magic=b"BAAD"), "the base record is not FILE", "stopped 2 reads 0", (HEADER,))
     yield Case("none", of(), "no attribute", "end reads 0", (HEADER,))
     yield Case("first-past", of(FRONT, first=56)[:32 + 20] + b"\xFD\0" + of(FRONT)[32 + 22:], "3 bytes left at the first attribute offset",

@@ -1,7 +1,6 @@
-"""Holds the parts of an item, as built, to the second reading of document 01 (parts_reading.py) and to answers of the Rust.
+"""Holds the parts of an item, as built, to the second reading of the rules (parts_reading.py) and to answers of the Rust.
 
-Every question goes to the program `walk` and every line that it writes is compared. Fails at any difference.
-`python3 tests/parts.py sample` writes the files stdin and stdout of the crate walk, which rt ci runs it on.
+Every question goes to the program `ask` and every line that it writes is compared. Fails at any difference.
 """
 import collections
 import os
@@ -25,8 +24,6 @@ from walk_reading import NO_LIST, Rest
 ROOT = asking.ROOT
 LAST = asking.LAST
 COLLECT, WITHIN, WALK = range(3)
-# the program's kinds of the item walk come before these
-BEFORE = len(items.KINDS)
 
 SEED = 20240703
 DAMAGED, RANDOM, STREAMS, CHAINED, LARGE = 5_000, 5_000, 12_000, 3_000, 40
@@ -61,8 +58,7 @@ def calls_in(lines):
 
 
 class Test(asking.Asker):
-    PROGRAM = "walk"
-    CALLS = ("parts::collect", "lent::list_within", "items::next from fresh on, with parts::collect for each item")
+    CALLS = ("parts::collect", "parts::fill", "File::next from fresh on, with parts::collect for each item")
 
     def __init__(self):
         super().__init__()
@@ -72,7 +68,7 @@ class Test(asking.Asker):
 
     def packed(self, q):
         most = q.calls if q.kind == WALK else q.room
-        return asking.question(BEFORE + q.kind, q.number, q.record, q.table, rest=q.rest, most=most)
+        return asking.question(asking.ON_PARTS + q.kind, q.number, q.record, q.table, rest=q.rest, most=most)
 
     def shown(self, q):
         return q._replace(record="%d bytes" % len(q.record), table="%d bytes" % len(q.table))
@@ -101,10 +97,6 @@ class Test(asking.Asker):
             self.endings[where, end] += 1
         super().ask(q, answer)
 
-    def sample_files(self, questions):
-        """Behind those of items.py, which asks the same program."""
-        return tuple((path, front + text) for (path, front), (_, text) in zip(items.sample_files(), super().sample_files(questions)))
-
     def put(self, kind, record_, table_, **more):
         self.put_question(Question(kind, record_, table_, **more))
 
@@ -115,7 +107,7 @@ class Test(asking.Asker):
             self.put(WITHIN, record_, table_, number=number, rest=rest, room=room)
 
     def case(self, name, q, parts, end, reads):
-        """An answer that follows from the document by hand. A class of cases is told by its name."""
+        """An answer that follows from the rules by hand. A class of cases is told by its name."""
         answer = "parts %d %s reads %d" % (len(parts), end, reads)
         answer += "".join(" part %d %d %d %d %d %d %d" % part for part in parts) + " unchanged 157"
         self.put_literal_question(answer, q)
@@ -534,7 +526,7 @@ def streams_table(chance):
     return table(records)
 
 
-# The Rust's answers, kept. Both sides are told in the words of document 01's listing, without counts and with the places of those
+# The Rust's answers, kept. Both sides are told in the words of the listing, without counts and with the places of those
 # refusals whose place the Rust tells.
 
 PLACED = {2, 3, 4, 5, 8, 9, 10, 11, 19}
@@ -546,7 +538,7 @@ def refused_told(words):
 
 
 def value_questions(q, answer):
-    """For the program `ask`: the name and the value of each item of a walk."""
+    """For raw.py's questions: the name and the value of each item of a walk."""
     files = [line.split(" ")[1:3] for line in answer.split("\n") if line.startswith("item ")]
     if not files:
         return []
@@ -555,7 +547,7 @@ def value_questions(q, answer):
 
 
 def value_told(value, parts):
-    """An item's value and the lines of its parts: `value` by the program `ask`, `parts` the line of `walk`."""
+    """An item's value and the lines of its parts: `value` by raw.py's question, `parts` the line of the walk."""
     words = value.split(" ")
     # the Rust has no check 7: it may say anything of a value whose header is cut
     if words[:2] == ["refused", "7"]:
@@ -604,7 +596,7 @@ def alike(ours, theirs):
 
 
 def replay(text):
-    """The kept answers against the programs walk and ask: (cases, lines, parts, what differs)."""
+    """The kept answers against the program: (cases, lines, parts, what differs)."""
     test, asker, cases = Test(), raw.Test(), items.kept_answers(text)
     questions = []
     for on, table_, _, _ in cases:
@@ -712,11 +704,8 @@ def finish(test):
 def main():
     sys.stdout.reconfigure(line_buffering=True)
     test = Test()
-    if sys.argv[1:] == ["sample"]:
-        test.write_samples(sample(test))
-        return
     started = time.time()
-    test.samples(sample(test), "tests/parts.py")
+    asking.hold_samples(test.sample_texts(sample(test)))
     test.notices(sample(test))
     cut_questions(test)
     rust_answers()

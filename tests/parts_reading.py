@@ -1,7 +1,7 @@
-"""A second reading of document 01's 'Parts', in plain Python, to hold the parts of an item to.
+"""A second reading of the rules on parts, in plain Python, to hold the parts of an item to.
 
-Written from the document's sentences (quoted below) and from the points that the project settled about them, not from
-the library's code. The lower layers are those of reading.py, the walk that gives the items is that of walk_reading.py.
+Written from docs/RULES.md (sections cited as RULES n), not from the library's code. The lower layers are those of reading.py,
+the walk that gives the items is that of walk_reading.py.
 
 A refusal is a value here, since the parts before it stay. Each call answers (parts, None or the refusal, reads).
 """
@@ -11,7 +11,7 @@ import reading
 import walk_reading
 from reading import Refusal
 
-# the listing has "room for 157 parts"
+# the listing's room for parts (RULES 18)
 ROOM = 157
 
 
@@ -28,82 +28,79 @@ class Part(NamedTuple):
 
 
 def looked_up(record, number, rows, e, place):
-    """"Each is looked up and found, then 19, 7, 12": (reads, the part or the refusal)."""
-    # "the lent base record where the number is the base's, even if the table has it too"
+    """The part that an entry leads to (RULES 15): (reads, the part or the refusal)."""
+    # the base record wins over a row of its number (RULES 11)
     other = record if e.file == number else rows.get(e.file)
-    # 17, and 18 of the search: "else the list entry's offset in the base record"
+    # 17, and 18 of the search, at the entry in the base record
     if other is None:
         return 0, Refusal(17, number, place)
-    # "The record must pass check 2." "For 1, 2 and 22 the place is 0, in the record tested"
+    # 2 at 0 of the record that is found
     if other[:4] != b"FILE":
         return 0, Refusal(2, e.file, 0)
     reads, a = reading.find(other, e.file, e.ty, e.instance, number, place)
     if isinstance(a, Refusal):
         return reads, a
-    # 19: "part resident"
+    # 19, then 7, then 12
     if a.resident:
         return reads, Refusal(19, e.file, a.offset)
-    # 7: "length under .. 64 non-resident"
     try:
         f = reading.full_of(other, e.file, a)
     except Refusal as refusal:
         return reads, refusal
-    # 12: "runs offset past length"
     if f.runs > a.length:
         return reads, Refusal(12, e.file, a.offset)
-    # "The runs are the bytes from the runs offset to the attribute's end." VCN "is the attribute's own lowest"
+    # the runs go up to the attribute's end; the VCN is the attribute's own lowest
     return reads, Part(e.file, a.offset, f.lowest, a.offset + f.runs, a.length - f.runs, f.size, e.lowest)
 
 
 def parts_in(record, number, rows, rest, room=ROOM):
     """One call, behind the opening checks."""
     parts, reads, key, at = [], 0, None, rest.start
-    # "An item of the raw walk has no parts."
+    # an item that tells no list has none
     if not rest.there:
         return parts, None, 0
     while True:
-        # "Reading an entry may refuse by 14 to 16"
+        # 14, 15, 16
         try:
             e = reading.entry(record[at:rest.end], number, at)
         except Refusal as refusal:
             return parts, refusal, reads
-        # "a place where none is given makes no parts", and so do those at the list's end
+        # where no entry is given the parts are whole
         if e is None:
             return parts, None, reads
-        # "each entry given counts one", the one that ends the parts too
+        # the entry that ends the parts counts too (RULES 17)
         reads += 1
         known = e.ty in reading.KNOWN
         if key is None:
-            # "a first entry of unknown type is 6", told at the entry
+            # also of the first entry, told at the entry
             if not known:
                 return parts, Refusal(6, number, at), reads
             key = e.ty, e.instance
-        # "that entry and those directly after it while instance and type agree. Where the instance agrees and the type is
-        # unknown: 6. Base-record entries count."
+        # the entries directly behind while instance and type agree; 6 where the instance agrees and the type is unknown
         elif e.instance != key[1]:
             return parts, None, reads
         elif not known:
             return parts, Refusal(6, number, at), reads
         elif e.ty != key[0]:
             return parts, None, reads
-        # "With no room for the next part: 20, before the lookup."
+        # 20 comes before the lookup
         if len(parts) >= room:
             return parts, Refusal(20, number, at), reads
         more, part = looked_up(record, number, rows, e, at)
         reads += more
         if isinstance(part, Refusal):
             return parts, part, reads
-        # "Parts go, in list order, .. filled from the front"
+        # in the order of the entries, from the front
         parts.append(part)
         at += e.length
 
 
 def parts_of(record, number, table, rest, room=ROOM):
     """One call for any place that is lent."""
-    # "Order: 21, 1, 2, 22, then the steps."
+    # 21, 1, 2, 22, in this order
     try:
         t = walk_reading.opened(record, number, table)
-        # 22: "state's list not inside the record"
+        # 22 (RULES 13)
         if rest.there and not rest.start <= rest.end <= len(record):
             raise Refusal(22, number, 0)
     except Refusal as refusal:
@@ -138,8 +135,8 @@ def said_end(answer):
 
 
 def said(parts, answer, reads):
-    """How many parts there are, how they end, what was read, and each part. "records past the reported number are
-    unchanged": all up to the last of the 157."""
+    """How many parts there are, how they end, what was read, and each part. The records past them are
+    unchanged, all up to the last of the 157."""
     text = "parts %d %s reads %d" % (len(parts), said_end(answer), reads)
     return text + "".join(" part %d %d %d %d %d %d %d" % part for part in parts) + " unchanged %d" % ROOM
 

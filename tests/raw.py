@@ -1,7 +1,6 @@
-"""Holds the layers `fields`, `raw` and `reader`, as built, to the second reading of document 01 (reading.py).
+"""Holds the layers `fields` and `record`, as built, to the second reading of the rules (reading.py).
 
 Every question goes to the program `ask` and every line that it writes is compared. Fails at any difference.
-`python3 tests/raw.py sample` writes the files stdin and stdout of the crate ask.
 """
 import glob
 import os
@@ -11,7 +10,7 @@ import sys
 from typing import NamedTuple
 
 import reading
-from asking import LAST, ROOT, Asker, of, question, said, said_bytes
+from asking import LAST, ON_RECORDS, ROOT, Asker, hold_samples, of, question, said, said_bytes
 
 # The kinds, by the call that answers.
 (
@@ -19,10 +18,10 @@ from asking import LAST, ROOT, Asker, of, question, said, said_bytes
     MOVED, TAKEN,
 ) = KINDS = range(16)
 CALLS = (
-    "fields::header", "fields::opening_in", "fields::known_type", "fields::attribute_flags",
-    "raw::step", "raw::attribute_at", "raw::inner::find", "raw::step, from the first attribute on",
-    "values::inner::list_of, behind raw::attribute_at", "values::name", "values::name_view", "values::full", "values::value", "values::value_view",
-    "reader::step", "reader::taken",
+    "Record::header", "Record::open_sized", "fields::known_type", "fields::attribute_flags",
+    "Record::step", "Record::attribute", "Record::find", "Record::attributes",
+    "Located::list, behind Record::attribute", "Record::name", "its bytes", "Record::full", "Record::value", "its bytes",
+    "Reader::take", "Record::taken",
 )
 
 SEED = 20240311
@@ -81,6 +80,10 @@ def expected(q):
     if q.kind == LIST:
         return told(of(lambda: reading.opened_list(q.record, q.number, reading.attribute_at(*at_place))))
     if q.kind == FIND:
+        # a record is searched behind checks 1 and 2
+        refusal = of(reading.opening, q.record, q.number)
+        if refusal is not None:
+            return told(refusal)
         base = (q.number + 1) % 2 ** 64
         reads, answer = reading.find(q.record, q.number, q.ty, q.instance, base, q.place)
         return "found %d %s" % (reads, told(answer))
@@ -136,11 +139,10 @@ END = struct.pack("<I", reading.MARKER)
 
 
 class Test(Asker):
-    PROGRAM = "ask"
     CALLS = CALLS
 
     def packed(self, q):
-        return question(q.kind, q.number, q.record, place=q.place, key=(0, q.ty, q.instance))
+        return question(ON_RECORDS + q.kind, q.number, q.record, place=q.place, key=(0, q.ty, q.instance))
 
     def shown(self, q):
         return q._replace(record="%d bytes" % len(q.record))
@@ -172,11 +174,9 @@ class Test(Asker):
     def put_literal(self, answer, kind, record_=b"", **more):
         self.put_literal_question(answer, Question(kind, record=record_, **more))
 
-    # The document's own examples.
+    # Examples of the rules: the whole case (RULES 18), and both sides of each line (RULES 20).
 
     def whole_case(self):
-        # "record 40, 128 bytes, first attribute at 56, used size 116. At 56: type 16, length 32, instance 0, value 8 bytes
-        # at 24. At 88: type 128, length 24, instance 1, value empty at 24. At 112: the end marker."
         r = record(128, 56, [(56, resident(16, 32, 8)), (88, resident(128, 24, 0, instance=1)), (112, END)])
         self.put_literal(
             "attribute 56 16 32 1 0 0 0 0\nattribute 88 128 24 1 0 0 0 1\nend", WALK, r)
@@ -194,28 +194,28 @@ class Test(Asker):
         self.put_literal("found 2 refused 18 41 7", FIND, r, ty=128, instance=2, place=7)
 
     def both_sides(self):
-        # "length 16 accepted, 15 gives 4. 16 bytes left with length 17 gives 5."
+        # a length of 16 or 15, and one of 17 with 16 bytes left
         for length, answer in ((16, "attribute 48 16 16 1 0 0 0 0"), (15, "refused 4 40 48"), (17, "refused 5 40 48")):
             r = record(64, 48, [(48, head(16, length))])
             self.put_literal(answer, STEP, r, place=48)
             self.put_literal(answer, TAKEN, r, place=0)
             self.put_literal("moved %d %s" % (64 if length == 16 else 48, answer), MOVED, r, place=48)
-        # "4 bytes left holding type 16 gives 3; 3 bytes left: end."
+        # 4 bytes left with a type in them, and 3
         last = record(64, 60, [(60, struct.pack("<I", 16))])
         self.put_literal("refused 3 40 60", STEP, last, place=60)
         self.put_literal("end", STEP, last, place=61)
-        # "name offset 32, one unit, in length 32 gives 8; value offset 32, length 0, in 32 accepted."
+        # a name and an empty value at the attribute's very end
         named = record(128, 56, [(56, resident(16, 32, 0, 32, units=1, name=32))])
         self.put_literal("refused 8 40 56", NAME, named, place=56)
         self.put_literal("value resident 88 0", VALUE, named, place=56)
-        # "value offset 24, length 4,294,967,295 gives 11."
+        # the longest value there can be
         long = record(128, 56, [(56, resident(16, 32, 2 ** 32 - 1, 24))])
         self.put_literal("refused 11 40 56", VALUE, long, place=56)
-        # "Non-resident length 64 with runs offset 64: empty runs."
+        # run bytes that begin at the attribute's end
         runs = record(128, 56, [(56, non_resident(128, 64, 64))])
         self.put_literal("value runs 120 0 40000", VALUE, runs, place=56)
         self.put_literal("view 0 ", VALUE_VIEW, runs, place=56)
-        # "Slips we expect: Stopping at used size." The attribute at 88 lies wholly behind the used size.
+        # the used size is not consulted: the attribute at 88 lies wholly behind it
         behind = bytearray(record(128, 56, [(56, resident(16, 32, 8)), (88, resident(128, 24, instance=1)), (112, END)]))
         struct.pack_into("<I", behind, 24, 88)
         self.put_literal(
@@ -432,7 +432,7 @@ class Test(Asker):
 
 
 def sample():
-    """Questions of each kind about the document's whole case. The program's files stdin and stdout have them."""
+    """Questions of each kind about the whole case. rt ci runs the program on them."""
     r = record(128, 56, [(56, resident(16, 32, 8)), (88, resident(128, 24, 0, instance=1)), (112, END)])
     asked = [Question(kind, place=56, ty=128, instance=1, record=r) for kind in (*KINDS, WALK, STEP)]
     return asked + [Question(TAKEN, place=1, record=r)]
@@ -441,10 +441,7 @@ def sample():
 def main():
     sys.stdout.reconfigure(line_buffering=True)
     test = Test()
-    if sys.argv[1:] == ["sample"]:
-        test.write_samples(sample())
-        return
-    test.samples(sample(), "tests/raw.py")
+    hold_samples(test.sample_texts(sample()))
     test.notices(sample())
     test.cut(Question(STEP, place=56, record=record(64, 56)))
     print("raw: seed %d, %d damaged and random records" % (SEED, DAMAGED))

@@ -1,7 +1,7 @@
-"""Holds the layers `list` and `table`, as built, to the second reading of document 01 (reading.py).
+"""Holds the layers `list` and `table`, and the opening of a file and its lookup, as built, to the second reading of the rules
+(reading.py).
 
-Every question goes to the program `ask_table` and every line that it writes is compared. Fails at any difference.
-`python3 tests/table.py sample` writes the files stdin and stdout of the crate ask_table.
+Every question goes to the program `ask` and every line that it writes is compared. Fails at any difference.
 """
 import glob
 import itertools
@@ -13,13 +13,12 @@ from typing import NamedTuple
 
 import asking
 import reading
-from asking import LAST, ROOT, Asker, of, question, run, said, said_bytes
+from asking import LAST, ON_TABLES, ROOT, Asker, hold_samples, of, question, run, said, said_bytes
 
 # The kinds, by the call that answers.
 HEADER, STEP, BASE_ROW, CHECK, OPENING, LOOKUP, VIEW = KINDS = range(7)
 CALLS = (
-    "list::header", "list::step", "table::base_row", "table::check", "table::opening", "lookup::lookup",
-    "lookup::lookup_view",
+    "list::header", "list::step", "TableHeader::base_row", "Table::check", "File::of_bytes", "File::lookup", "its bytes",
 )
 
 SEED = 20240402
@@ -109,11 +108,10 @@ def table(rows, length, size=64, directory=20, records=None, base=None, count=No
 
 
 class Test(Asker):
-    PROGRAM = "ask_table"
     CALLS = CALLS
 
     def packed(self, q):
-        return question(q.kind, q.number, q.record, q.table, place=q.place, wanted=q.wanted)
+        return question(ON_TABLES + q.kind, q.number, q.record, q.table, place=q.place, wanted=q.wanted)
 
     def shown(self, q):
         return q._replace(record="%d bytes" % len(q.record), table="%d bytes" % len(q.table))
@@ -146,23 +144,23 @@ class Test(Asker):
     def put_literal(self, answer, kind, record_=b"", table_=b"", **more):
         self.put_literal_question(answer, Question(kind, record=record_, table=table_, **more))
 
-    # The document's own cases on both sides of a line, and a small one for each of its sentences on entries and tables.
+    # Both sides of each line (RULES 20), and a small case for each rule on entries and tables.
 
     def both_sides_of_an_entry(self):
-        # "entry length 28 with one name unit accepted, 27 gives 15."
+        # a name of one unit in an entry of 28 and of 27 bytes
         self.put_literal("entry 128 28 1 0 41 3 " + named(bytes((186, 193))), STEP, entry(28, 28, 1), place=200)
         self.put_literal("refused 15 40 200 " + named(b""), STEP, entry(28, 27, 1), place=200)
-        # "entry length 40, no name, with 32 left: end."
+        # an entry that is longer than what is left
         self.put_literal("end " + named(b""), STEP, entry(32, 40, 0), place=200)
         self.put_literal("entry 128 40 0 0 41 3 " + named(b""), STEP, entry(40, 40, 0), place=200)
-        # "26 left, length 28, one unit gives 16."
+        # a name that is not all there
         self.put_literal("refused 16 40 200 " + named(b""), STEP, entry(26, 28, 1), place=200)
-        # "Nothing left: end. Else 14": "under 26 bytes left"
+        # nothing left, and fewer than 26 bytes
         self.put_literal("end", HEADER, b"", place=200)
         self.put_literal("refused 14 40 200", HEADER, entry(1, 28, 1), place=200)
         self.put_literal("refused 14 40 200", HEADER, entry(25, 28, 1), place=200)
         self.put_literal("entry 128 26 0 0 41 3", HEADER, entry(26, 26, 0), place=200)
-        # "reference u64 (low 48 bits the record number)"
+        # a reference's upper 16 bits
         high = entry(26, 26, 0, reference=0xFFFF_0000_0000_0029)
         self.put_literal("entry 128 26 0 0 41 3", HEADER, high, place=200)
 
@@ -173,13 +171,13 @@ class Test(Asker):
         self.put_literal("table 2 64 20 44 0", CHECK, table_=t)
         self.put_literal("table 2 64 20 44 0", OPENING, base, t)
         self.put_literal("row 0", BASE_ROW, table_=t)
-        # "Base row equal to count means none."; "base row above count"
+        # a base row that is the count, and one above it
         self.put_literal("none", BASE_ROW, table_=numbers(2, 64, 20, 44, 2))
         self.put_literal("refused 21 0 0", CHECK, table_=numbers(2, 64, 20, 44, 3) + t[20:])
-        # "under 20 bytes"
+        # 20 bytes and 19
         self.put_literal("table 0 64 20 20 0", CHECK, table_=numbers(0, 64, 20, 20, 0))
         self.put_literal("refused 21 0 0", CHECK, table_=numbers(0, 64, 20, 20, 0)[:19])
-        # "Then row by row": "the place 0 or the row's offset"
+        # the rows, each fault where its row stands
         self.put_literal("refused 21 0 32", CHECK, table_=table([(40, 44), (40, 108)], 172))
         self.put_literal("refused 21 0 20", CHECK, table_=table([(2 ** 48, 44), (40, 108)], 172))
         self.put_literal("refused 21 0 32", CHECK, table_=table([(40, 44), (41, 109)], 172))
@@ -189,12 +187,12 @@ class Test(Asker):
         other = t[:108] + b"BAAD" + t[112:]
         self.put_literal("refused 2 41 0", LOOKUP, base, other, wanted=41, place=9)
         self.put_literal("view 0 ", VIEW, base, other, wanted=41, place=9)
-        # "Order: 21, 1, 2"
+        # 21, 1 and 2, in this order
         bad = numbers(2, 64, 20, 44, 3) + t[20:]
         self.put_literal("refused 21 0 0", LOOKUP, b"BAAD", bad, wanted=41, place=9)
         self.put_literal("refused 1 40 0", LOOKUP, b"BAAD", t, wanted=41, place=9)
         self.put_literal("refused 2 40 0", LOOKUP, b"BAAD" + base[4:], t, wanted=41, place=9)
-        # "the lent base record where the number is the base's, even if the table has it too"
+        # the base record wins over a row of its number
         lent = record(64, 900)
         self.put_literal(said_bytes("view", lent), VIEW, lent, t, wanted=40)
         self.put_literal(said_bytes("view", t[44:108]), VIEW, lent, t, wanted=40, number=39)
@@ -232,7 +230,7 @@ class Test(Asker):
                 name = bytearray(rest)
                 name[26 + k] ^= 0xA5
                 self.put(STEP, bytes(name))
-        # "name offset is not consulted"
+        # the name offset is not consulted
         for offset in range(256):
             self.put_entry(entry(60, 40, 3, offset=offset))
 
@@ -422,7 +420,7 @@ class Test(Asker):
     # Opening and lookup.
 
     def openings(self):
-        """1 and 2 of the base record, behind the table's 21: "record length .. not the lent table's record size"."""
+        """1 and 2 of the base record, behind the table's 21; its length has to be the table's record size."""
         magics = (b"FILE", b"FILF", b"\0ILE", b"BAAD")
         for size in (64, 72, 128, 4096):
             t = table([(40, 60), (41, 61)], 61 + size, size, records=60)
@@ -579,7 +577,7 @@ class Test(Asker):
 
 
 def sample():
-    """Questions of each kind, each refusal and each other answer. The program's files stdin and stdout have them."""
+    """Questions of each kind, each refusal and each other answer. rt ci runs the program on them."""
     t = table([(40, 44), (41, 108)], 172, base=0)
     base, other, bad = t[44:108], t[:108] + b"BAAD" + t[112:], t[:20] + b"\x29" + t[21:]
     entries = (entry(40, 40, 3), entry(32, 40, 0), entry(25, 26, 0), entry(28, 27, 1), entry(26, 28, 1), b"")
@@ -607,10 +605,7 @@ def too_long(test):
 def main():
     sys.stdout.reconfigure(line_buffering=True)
     test = Test()
-    if sys.argv[1:] == ["sample"]:
-        test.write_samples(sample())
-        return
-    test.samples(sample(), "tests/table.py")
+    hold_samples(test.sample_texts(sample()))
     test.notices(sample())
     test.cut(Question(LOOKUP, wanted=41, record=record(64), table=table([(41, 32)], 96)))
     too_long(test)
@@ -635,8 +630,8 @@ def main():
     test.lookups()
     test.random_tables(test.volumes(), random.Random(SEED))
     needed = {
-        "list::header": (14, 15, 16), "list::step": (14, 15, 16), "table::check": (21,), "table::opening": (21, 1, 2),
-        "lookup::lookup": (21, 1, 2, 17, "2 of the record looked up"),
+        "list::header": (14, 15, 16), "list::step": (14, 15, 16), "Table::check": (21,), "File::of_bytes": (21, 1, 2),
+        "File::lookup": (21, 1, 2, 17, "2 of the record looked up"),
     }
     test.finish("%s %s" % (call, number) for call, refusals in needed.items() for number in refusals)
 

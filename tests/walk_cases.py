@@ -1,6 +1,6 @@
 """Tables for the tests of the item walk: real ones, made by hand, damaged copies of real ones, and random ones.
 
-A table is bytes in document 01's format. Its base row's record is the one walked, unless a test says otherwise.
+A table is bytes as docs/RULES.md has them (RULES 10). Its base row's record is the one walked, unless a test says otherwise.
 """
 import glob
 import os

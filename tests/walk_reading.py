@@ -1,8 +1,7 @@
-"""A second reading of document 01's 'Items' and 'First of a type', in plain Python, to hold the item walk to.
+"""A second reading of the rules on the item walk and the first of a type, in plain Python, to hold the walk to.
 
-Written from the document's sentences (quoted below) and from the points that the project settled about them, not from
-the library's code. The lower layers (an attribute, finding one, opening a list, a list's entries, the lent table) are those
-of reading.py.
+Written from docs/RULES.md (sections cited as RULES n), not from the library's code. The lower layers (an attribute, finding
+one, opening a list, a list's entries, the lent table) are those of reading.py.
 
 A refusal is a value here, since a walk goes on behind it. Each call answers (answer, state left, reads).
 """
@@ -61,53 +60,49 @@ def fresh(record):
 
 
 def opened(record, number, table):
-    """"Order: 21, 1, 2, 22, then the steps." The first three; the table they let pass."""
+    """21, 1 and 2; the table that they let pass (RULES 13)."""
     t = table_of(table)
     reading.opening(record, number, t.size)
     return t
 
 
 def next_in(record, number, rows, state):
-    """One call, behind the opening checks: "passes over lists and entries until it has an item, an end or a refusal"."""
+    """One call, behind the opening checks (RULES 14)."""
     raw, rest, key = state
     reads = 0
     while True:
-        # "An open list is taken before the raw walk."
+        # an open list comes before the raw walk
         while rest.there:
             try:
-                # "the rest of the list from the next entry on"
                 e = reading.entry(record[rest.start:rest.end], number, rest.start)
             except Refusal as refusal:
-                # 14, 15, 16: "at that entry"
+                # 14, 15, 16: the state stays at that entry
                 return refusal, State(raw, rest, key), reads
             if e is None:
-                # "A list that ends is closed."
+                # a list that ends is closed
                 rest = NO_LIST
                 break
-            # "Each attribute that passes 3 to 5 and each entry given counts one, each time, in items, lookups and parts."
+            # RULES 17: every entry that is given counts one, whatever comes of it
             reads += 1
             here, rest = rest, Rest(True, rest.start + e.length, rest.end)
-            # "For each entry: unknown type is 6": "in an entry: past it, key kept"
+            # an unknown type comes first: past the entry, key kept
             if e.ty not in reading.KNOWN:
                 return Refusal(6, number, here.start), State(raw, rest, key), reads
-            # "then base record number passes over; then an entry whose instance and type equal the skip key passes over"
+            # then the two that pass over
             if e.file == number or key == (True, e.ty, e.instance):
                 continue
-            # "Otherwise the skip key is cleared, the record looked up (17, 2)"; from there on every refusal leaves the
-            # state "past the entry, key cleared"
+            # from here on every refusal leaves the state past the entry, without a key
             key = NO_KEY
             if e.file not in rows:
                 return Refusal(17, number, here.start), State(raw, rest, key), reads
             other = rows[e.file]
             if other[:4] != b"FILE":
                 return Refusal(2, e.file, 0), State(raw, rest, key), reads
-            # "and the attribute found: first in raw order with that type and instance; before it 3 to 6 refuse, without
-            # it 18"
             more, a = reading.find(other, e.file, e.ty, e.instance, number, here.start)
             reads += more
             if isinstance(a, Refusal):
                 return a, State(raw, rest, key), reads
-            # "Non-resident: the skip key becomes this instance and type." Such an item has its list from its entry on.
+            # a non-resident one leaves its key, and tells its list from its entry on
             if a.resident:
                 return Item(e.file, a, NO_LIST), State(raw, rest, key), reads
             return Item(e.file, a, here), State(raw, rest, Key(True, e.ty, e.instance)), reads
@@ -115,30 +110,29 @@ def next_in(record, number, rows, state):
         try:
             a = reading.raw_step(record, number, raw)
         except Refusal as refusal:
-            # 3 / 4 / 5: "raw: at that place"
+            # 3, 4, 5: the raw place stays
             return refusal, State(raw, NO_LIST, key), reads
         if a is None:
             return None, State(raw, NO_LIST, key), reads
         reads += 1
         raw += a.length
-        # "A raw attribute of type 0x20 opens its list (7, then 10 and 11, or 13 without 12); any other is an item, unknown
-        # types too."
+        # 0x20 opens its list; any other is an item, unknown types too
         if a.ty != 0x20:
             return Item(number, a, NO_LIST), State(raw, NO_LIST, key), reads
         try:
             span = reading.opened_list(record, number, a)
         except Refusal as refusal:
-            # 7, 10, 11, 13: "opening a list: past it, no list"
+            # 7, 10, 11, 13: past the attribute, no list
             return refusal, State(raw, NO_LIST, key), reads
         rest = Rest(True, span.start, span.start + span.count)
 
 
 def next_item(record, number, table, state):
     """One call from any state."""
-    # "21 .. 22: as given", and nothing is read
+    # a state that is not let in stays as given, and nothing is read
     try:
         t = opened(record, number, table)
-        # 22: "state's list not inside the record"; place 0, in the record tested
+        # 22 (RULES 13)
         if state.rest.there and not state.rest.start <= state.rest.end <= len(record):
             raise Refusal(22, number, 0)
     except Refusal as refusal:
@@ -170,7 +164,7 @@ def walk(record, number, table, turns):
 
 
 def first_of(record, number, table, ty):
-    """"First of a type takes items from fresh until one fits": (answer, reads)."""
+    """(answer, reads) (RULES 16)."""
     try:
         t = opened(record, number, table)
     except Refusal as refusal:
@@ -181,10 +175,10 @@ def first_of(record, number, table, ty):
         reads += more
         if isinstance(answer, Refusal):
             return answer, reads
-        # "the end is 18"; "for 18 from the first of a type it is 0 in the base record"
+        # the end is 18, at 0 in the base record
         if answer is None:
             return Refusal(18, number, 0), reads
-        # "an item of unknown type is 6, whatever was asked"
+        # an item of unknown type is 6, whatever was asked for
         if answer.attribute.ty not in reading.KNOWN:
             return Refusal(6, answer.file, answer.attribute.offset), reads
         if answer.attribute.ty == ty:
@@ -204,7 +198,9 @@ def said(answer):
 
 
 def said_state(state):
-    return "left %d %d %d %d %d %d %d" % (state.raw, *state.rest, *state.key)
+    # a list or a key that is not there has no numbers
+    rest, key = state.rest if state.rest.there else NO_LIST, state.key if state.key.there else NO_KEY
+    return "left %d %d %d %d %d %d %d" % (state.raw, *rest, *key)
 
 
 def said_call(answer, left, reads):

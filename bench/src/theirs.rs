@@ -100,7 +100,7 @@ impl Read for Volume {
     }
 }
 
-/// The document's number of an error of the crate.
+/// The number (docs/RULES.md, section 19) of an error of the crate.
 fn refusal(e: &NtfsError, size: usize) -> u64 {
     match e {
         NtfsError::InvalidFileSignature { .. } => 2,

@@ -1,41 +1,83 @@
-// Asks the layers `fields`, `raw` and `reader`: reads questions from standard input (the crate `words` says how) and writes the answer to each on a line, for tests that compare the answers with a second reading of the rules.
-// For what a reader takes, the place is the number of the take. For the flags of an attribute, the instance has them.
+// Asks the library: reads questions from standard input and writes the answer to each on a line, for tests that
+// compare the answers with a second reading of the rules.
 #![tactic(auto)]
 
-mod answer;
+mod in_record;
+mod in_table;
+mod in_walk;
+mod numbers;
+mod question;
+mod tell;
 
-use fields::RecordNumber;
+use question::Question;
 use std::io;
-use std::io::Write;
-use words::Question;
+use std::io::{BufReader, BufWriter, Read, Write};
+use tell::{line, view};
 
-// One call for each kind of question. A kind that there is not has no answer.
-fn tell_answer(out: &mut impl Write, q: &Question<'_>) -> io::Result<()> {
-    let s = q.record;
-    let number = RecordNumber(q.number);
-    let place = q.place;
+// The questions on one record; the kinds behind them are the next function's. A kind is a byte, matched in
+// these two alone: an enum of thirty names would be made from the byte by the same list.
+fn answer_on_record<W: Write>(out: &mut W, q: &Question<'_>) -> io::Result<()> {
     match q.kind {
-        0 => answer::tell_header(out, s, number),
-        1 => answer::tell_opening(out, s, number, place),
-        2 => answer::tell_known(out, q.ty),
-        3 => answer::tell_flags(out, q.instance),
-        4 => answer::tell_step(out, s, number, place),
-        5 => answer::tell_attribute(out, s, number, place),
-        6 => answer::tell_search(out, s, number, place, q.ty, q.instance),
-        7 => answer::tell_walk(out, s, number),
-        8 => answer::tell_list(out, s, number, place),
-        9 => answer::tell_name(out, s, number, place),
-        10 => answer::tell_name_view(out, s, number, place),
-        11 => answer::tell_full(out, s, number, place),
-        12 => answer::tell_value(out, s, number, place),
-        13 => answer::tell_value_view(out, s, number, place),
-        14 => answer::tell_moved(out, s, number, place),
-        15 => answer::tell_taken(out, s, number, place),
+        0 => line(out, &in_record::header(q)),
+        1 => line(out, &in_record::opening(q)),
+        2 => line(out, &numbers::known(q.ty)),
+        3 => line(out, &numbers::flags(q.instance)),
+        4 => line(out, &in_record::step(q)),
+        5 => line(out, &in_record::attribute(q)),
+        6 => in_record::search(out, q),
+        7 => in_record::walk(out, q),
+        8 => line(out, &in_record::list(q)),
+        9 => line(out, &in_record::name(q)),
+        10 => line(out, &view(in_record::name_bytes(q))),
+        11 => line(out, &in_record::full(q)),
+        12 => line(out, &in_record::value(q)),
+        13 => line(out, &view(in_record::value_bytes(q))),
+        14 => in_record::take(out, q),
+        15 => line(out, &in_record::taken(q)),
+        _ => answer_on_file(out, q),
+    }
+}
+
+// Those on entries, tables and walks. A kind that there is not has no answer.
+fn answer_on_file<W: Write>(out: &mut W, q: &Question<'_>) -> io::Result<()> {
+    match q.kind {
+        16 => line(out, &in_table::entry(q)),
+        17 => line(out, &in_table::listed(q)),
+        18 => in_table::base_row(out, q.table),
+        19 => line(out, &in_table::check(q)),
+        20 => line(out, &in_table::opening(q)),
+        21 => line(out, &in_table::lookup(q)),
+        22 => line(out, &view(in_table::record_bytes(q))),
+        23 => in_walk::fresh(out, q),
+        24 => line(out, &in_walk::next(q)),
+        25 => in_walk::walk(out, q, false),
+        26 => line(out, &in_walk::first(q)),
+        27 => in_walk::parts(out, q),
+        28 => in_walk::parts_within(out, q),
+        29 => in_walk::walk(out, q, true),
         _ => Ok(()),
     }
 }
 
+// Answers one question after another. It ends by the error that the input's end is, or that of an answer that
+// could not be written.
+fn answer_each<R: Read, W: Write>(input: &mut R, space: &mut [u8], out: &mut W) -> io::Result<()> {
+    // as many as come: a loop without a bound would have to be shown to end
+    for _ in 0..u64::MAX {
+        answer_on_record(out, &question::read(input, space)?)?;
+    }
+    Ok(())
+}
+
+fn answer_all<R: Input + Print + AllocGlobal>(rt: &R) -> io::Result<()> {
+    let mut input = BufReader::new(rt.alloc(), rt.reader())?;
+    let mut out = BufWriter::new(rt.alloc(), io::writer(rt))?;
+    let mut space = question::room(rt.alloc())?;
+    let _ = answer_each(&mut input, &mut space, &mut out);
+    out.flush()
+}
+
 // Whether all could be written is not asked: what is missing is missed by the test.
 fn main(rt: HostRuntime) {
-    let _ = words::inner::answer_all(&rt, |q, out| tell_answer(out, q));
+    let _ = answer_all(&rt);
 }

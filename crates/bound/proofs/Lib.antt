@@ -1,18 +1,22 @@
--- What a whole listing reads, told by its trail, and its bound.
-pub mod Value
-pub mod Facts
-pub mod Keys
-pub mod Lists
-pub mod Rising
-pub mod Stretch
-pub mod Steps
-pub mod Bound
-pub mod Trails
-pub mod Counts
-pub mod Stood
-pub mod Order
-pub mod Apart
-pub mod Ends
-pub mod Third
-pub mod Callers
-pub mod Printed
+-- The proof of the theorem on reads: what a place of the walk is worth, what pays for a call, and the calls one behind
+-- the other.
+mod Value
+mod Search
+mod Members
+mod Found
+mod Before
+mod Stretch
+mod Pays
+mod Leads
+mod Finished
+mod Replays
+mod Runs
+mod Begun
+mod Paid
+mod Ends
+mod Tables
+mod Lists
+mod Calls
+pub mod Sofar
+mod Openings
+mod Printed

@@ -1,99 +1,212 @@
--- The count that a listing prints in its last line is that of the whole listing, and so at most a + 3e + 2ea.
-use Prim.Native.Nat.{ℕ, zero, suc, ◌<◌, zero-le}
-use mathlib.Core.Path.{◌≡◌, refl}
-use mathlib.Core.Logic.{inl, inr}
-use mathlib.Core.List.{List, [], ◌∷◌, ◌++◌}
-use Rattle.std.specs.Prelude.{Option, None, Some}
-use native.Mathlib.Nat.{not-suc-le-zero, lt-suc_self}
-use native.Mathlib.Omega.{arith}
-use borrow.Author.Tests.{eqb-true}
-use lib.ListN.{length}
-use lib.Dec.{eqb, ltb}
-use Rattle.fields.specs.Answer.{Answer, gives, ends, refuses}
-use Rattle.fields.specs.Open.{good_length, is_file, check_file, open_of, open_in}
+-- The lines of a listing follow its calls, and the last tells what these reported.
+use Rattle.std.proofs.Common.{ℕ, zero, suc, ◌+◌, ◌≤◌, ◌<◌, ◌≡◌, List, [], ◌∷◌, ◌++◌, map, length}
+use Rattle.std.proofs.Common.{refl, sym, ap, subst, ◌∙◌, arith, append_assoc}
+use Rattle.std.proofs.lemmas.Bool.Decides.{nat_tests}
+use Rattle.std.specs.Prelude.{Option, Some, None, ltb, eqb}
+use Rattle.fields.specs.Answer.{Answer, gives, ends, refuses, refusal, ◌⟫◌}
+use Rattle.fields.specs.Length.{good_length}
 use Rattle.fields.specs.declared.RecordNumber.{RecordNumber}
-use Rattle.fields.proofs.Cases.{both, not-second}
-use Rattle.fields.proofs.Answers.{refused-given}
+use Rattle.fields.proofs.Cases.{both}
+use Rattle.fields.proofs.Answers.{back, the-given}
 use Rattle.table.specs.Check.{table_of}
 use Rattle.table.specs.Held.{Held, record_of, base_of}
-use Rattle.table.specs.declared.TableHeader.{TableHeader}
-use Rattle.items.specs.Start.{fresh_of}
-use Rattle.items.specs.Items.{measure, next_in}
-use Rattle.turns.specs.declared.State.{State}
-use Rattle.turns.specs.declared.Item.{Item}
-use Rattle.items.proofs.Kept.{next-sinks}
-use Rattle.bound.specs.Run.{count_after, count_next, count_run, count_from, count_of}
-use Rattle.bound.specs.Printed.{Last, ended, stopped, before, Tells, Listed}
-use Rattle.bound.proofs.Third.{third, table-sized}
-use Rattle.line.specs.Lines.{Text}
-use Rattle.lines.specs.Listing.{item_lines, lines_after, lines_next, lines_run, walk_lines, opened_lines, base_lines, checked_lines, listing_of}
-use Rattle.gather.specs.Gather.{room, parts_for}
+use Rattle.table.specs.Told as tables
+use Rattle.table.specs.declared.check.TableHeader.{TableHeader}
+use Rattle.record.specs.Open.{is_file, check_file, open_of, open_in}
+use Rattle.items.specs.Told as files
+use Rattle.items.specs.Read.{Read}
+use Rattle.items.specs.State.{fresh_of, weight}
+use Rattle.items.specs.Items.{next_of}
+use Rattle.items.specs.declared.walk.Item.{Item}
+use Rattle.items.specs.declared.walk.State.{State}
+use Rattle.items.proofs.Falls.{falls}
+use Rattle.parts.specs.Parts.{parts_of}
+use Rattle.lines.specs.Line.{Line, record_line, part_line}
+use Rattle.lines.specs.Listing.{most_table, given_parts, item_line, lines_after, lines_run, walk_lines}
+use Rattle.lines.specs.Listing.{opened_lines, base_lines, table_lines, checked_lines, listing_of}
+use Rattle.bound.specs.Listing.{called, reported, Listed, fresh, item}
+use Rattle.bound.specs.Printed.{Closes, Tells, Ended, count_of, end_of, Listable, Listing, refused, unopened}
+use Rattle.bound.specs.Printed.{listed, WalksTell, ListingsTell}
+use Rattle.bound.proofs.Stretch.{by-test}
+use Rattle.bound.proofs.Runs.{reports}
+use Rattle.bound.proofs.Ends.{same, one, whole}
+use Rattle.bound.proofs.Paid.{reads}
+use Rattle.bound.proofs.Tables.{table_sized}
 
-behind : {c : ℕ} (l k : List Text) → Last c k → Last c (l ++ k)
-behind [] k h = h
-behind (x ∷ l) k h = before x (l ++ k) (behind l k h)
+module _ (s : List ℕ) (n : RecordNumber) (look : RecordNumber → Option (List ℕ)) (room : ℕ) where
+  abbrev rooms : ℕ → ℕ
+  rooms k = room
 
-module _ (s : List ℕ) (n : RecordNumber) (look : RecordNumber → Option (List ℕ)) where
-  printed-after : (on : ℕ → State → List Text) (count : ℕ → State → ℕ) (k : ℕ) (v : State) (a : Answer Item)
-      → ((i : Item) → a ≡ gives i → (k : ℕ) → Last (count k v) (on k v))
-      → Last (count_after s n look room count k v a) (lines_after s n look on k v a)
-  unfolding count_after lines_after parts_for
-  printed-after on count k v (gives i) h = behind (item_lines s n look i) _ (h i refl _)
-  printed-after on count k v ends h = ended
-  printed-after on count k v (refuses r) h = stopped r.number
+  abbrev Run : ℕ → ℕ → List Read → State → Type 0
+  Run k c read w = Listed s n look rooms k c read w
 
-  printed-run : (f k : ℕ) (w : State) → measure s w < f
-      → Last (count_run s n look room f k w) (lines_run s n look f k w)
-  unfolding count_run count_next lines_run lines_next
-  printed-run zero k w h = absurd (not-suc-le-zero h)
-  printed-run (suc f) k w h =
-      printed-after (lines_run s n look f) (count_run s n look room f) _ (next_in s n look w).left (next_in s n look w).answer
-      (λ i e j. let d = next-sinks s n look w i e in printed-run f j (next_in s n look w).left (omega arith))
-
-  -- the lines of a fresh walk
-  pub printed : Last (count_of s n look room) (walk_lines s n look 0 (fresh_of s))
-  unfolding count_of count_from walk_lines
-  printed = printed-run (suc (measure s (fresh_of s))) 0 (fresh_of s) (lt-suc_self (measure s (fresh_of s)))
-
--- checks 1 and 2 pass or refuse
-abbrev Sure : Answer Unit → Type 0
-Sure (gives u) = Unit {0}
-Sure ends = ⊥
-Sure (refuses r) = Unit {0}
-
-open-sure : (s : List ℕ) (n : RecordNumber) (size : ℕ) → Sure (open_in s n size)
-unfolding open_in open_of check_file
-open-sure s n size = both Sure (eqb (length s) size) _ _ (both Sure (good_length (length s)) _ _ (both Sure (is_file s) _ _ tt tt) tt) tt
-
-module _ (t : List ℕ) (h : TableHeader) (q : table_of t ≡ gives h) (b : Held) where
-  fits : {u : Unit} → open_in b.bytes b.number h.size ≡ gives u → length b.bytes ≡ h.size
-  unfolding open_in
-  fits e = eqb-true _ _ (not-second (eqb (length b.bytes) h.size) _ _ _ e refused-given).0
-
-  opened-tells : (x : Text) (a : Answer Unit) → open_in b.bytes b.number h.size ≡ a → Sure a
-      → Tells b.bytes (x ∷ opened_lines b.bytes b.number (record_of t) a)
-  unfolding opened_lines
-  opened-tells x (gives u) e y = record {
-    count = count_of b.bytes b.number (record_of t) room;
-    last = before x _ (printed b.bytes b.number (record_of t));
-    few = (third b.bytes b.number (record_of t) room (table-sized b.bytes t h q (fits e))).bound;
+  -- behind other lines
+  more : (a : Answer Item) (c : ℕ) (pre lines : List Line) → Tells a c lines → Tells a c (pre ++ lines)
+  more a c pre lines t = record {
+    before = pre ++ t.before;
+    last = t.last;
+    closes = t.closes;
+    all = ap (λ (x : List Line). pre ++ x) t.all ∙ sym (append_assoc pre t.before (t.last ∷ []));
   }
-  opened-tells x ends e y = absurd y
-  opened-tells x (refuses r) e y = record { count = 0; last = before x _ (stopped r.number); few = zero-le }
 
-base-listed : (t : List ℕ) (h : TableHeader) → table_of t ≡ gives h → (o : Option Held) → base_of t ≡ o
-    → Listed t (base_lines t h o)
-unfolding base_lines
-base-listed t h q (Some b) e = inr (b, e, opened-tells t h q b _ _ refl (open-sure b.bytes b.number h.size))
-base-listed t h q None e = inl refl
+  alone : (a : Answer Item) (c : ℕ) (x : Line) → Closes a c x → Tells a c (x ∷ [])
+  alone a c x h = record { before = []; last = x; closes = h; all = refl }
 
-checked-listed : (t : List ℕ) (a : Answer TableHeader) → table_of t ≡ a → Listed t (checked_lines t a)
-unfolding checked_lines
-checked-listed t (gives h) e = base-listed t h e (base_of t) refl
-checked-listed t ends e = inl refl
-checked-listed t (refuses r) e = inl refl
+  -- a listing that stops is the whole one
+  module _ (v : Ended s n look room) (k c : ℕ) (read : List Read) (w : State) (l : Run k c read w)
+      (stop : (i : Item) → (called s n look rooms w).answer ≡ gives i → ⊥) where
+    there : Run v.items c read w
+    there =
+        let u : Ended s n look room = record {
+          items = k;
+          count = c;
+          read = read;
+          last = w;
+          listed = l;
+          stops = stop;
+        } in
+        subst (λ (y : ℕ). Run y c read w) (sym (one s n look rooms v u)) l
 
--- for every table, whatever its bytes
-pub listing-listed : (t : List ℕ) → Listed t (listing_of t)
-unfolding listing_of
-listing-listed t = both (Listed t) (ltb 65536 (length t)) _ _ (inl refl) (checked-listed t (table_of t) refl)
+    last_is : v.last ≡ w
+    last_is = (same s n look rooms v.items v.count c v.read read v.last w v.listed there).states
+
+    count_is : v.count ≡ c
+    count_is = (same s n look rooms v.items v.count c v.read read v.last w v.listed there).counts
+
+    ended_so : (a : Answer Item) → (called s n look rooms w).answer ≡ a → (x : Line)
+        → Closes a (c + length (called s n look rooms w).reads) x
+        → Tells (end_of s n look room v) (count_of s n look room v) (x ∷ [])
+    ended_so a e x h =
+        let p : a ≡ end_of s n look room v = sym e ∙ ap (λ (y : State). (called s n look rooms y).answer)
+        (sym last_is) in
+        let q = ap (λ (y : State). reported s n look rooms y) last_is in
+        let r = reports s n look rooms w in
+        let o : c + length (called s n look rooms w).reads ≡ count_of s n look room v = let z = count_is in omega
+        arith in
+        alone (end_of s n look room v) (count_of s n look room v) x
+        (subst (λ (y : ℕ). Closes (end_of s n look room v) y x) o
+        (subst (λ (y : Answer Item). Closes y (c + length (called s n look rooms w).reads) x) p h))
+
+  module _ (v : Ended s n look room) where
+    abbrev Told : List Line → Type 0
+    Told lines = Tells (end_of s n look room v) (count_of s n look room v) lines
+
+    after : (fuel k c : ℕ) (read : List Read) (w : State) → Run k c read w → weight (length s) w < suc fuel
+        → ((k c : ℕ) (read : List Read) (u : State) → Run k c read u → weight (length s) u < fuel
+        → Told (lines_run room s n look fuel c u))
+        → (a : Answer Item) → (called s n look rooms w).answer ≡ a
+        → Told (lines_after room s n look (lines_run room s n look fuel) (c + length (called s n look rooms w).reads)
+        (called s n look rooms w).left a)
+    after fuel k c read w l h on (gives i) e =
+        let g = falls s n look w i e in
+        let p = parts_of s n look room i.rest in
+        let ls = called s n look rooms w in
+        let q = reports s n look rooms w in
+        let t = on (suc k) (c + reported s n look rooms w + length p.reads) (read ++ ls.reads ++ p.reads) ls.left
+        (item k c read w i l e) (omega arith) in
+        let o : c + reported s n look rooms w + length p.reads ≡ c + length ls.reads + length p.reads = omega arith in
+        more _ _ (item_line room s n look i ∷ []) _
+        (more _ _ (map (λ p. part_line p) (given_parts p)) _
+        (subst (λ (y : ℕ). Told (lines_run room s n look fuel y ls.left)) o t))
+    after fuel k c read w l h on ends e = ended_so v k c read w l
+        (λ i q. let d = sym e ∙ q in absurd (cc)) ends e _ refl
+    after fuel k c read w l h on (refuses r) e = ended_so v k c read w l (λ i q. let d = sym e ∙ q in absurd (cc))
+        (refuses r) e _ refl
+
+    run : (fuel k c : ℕ) (read : List Read) (w : State) → Run k c read w → weight (length s) w < fuel
+        → Told (lines_run room s n look fuel c w)
+    unfolding lines_run
+    run zero k c read w l h = absurd (omega arith)
+    run (suc fuel) k c read w l h = after fuel k c read w l h (λ k c read u m o. run fuel k c read u m o)
+        (next_of s n look w).answer refl
+
+    pub walked : Told (walk_lines room s n look 0 (fresh_of s))
+    unfolding walk_lines
+    walked = run _ 0 0 [] (fresh_of s) fresh (omega arith)
+
+pub walks_tell : WalksTell
+walks_tell s n look room w = walked s n look room w
+
+-- an opening gives or refuses
+opened-so : (s : List ℕ) (n : RecordNumber) (size : ℕ) → open_in s n size ≡ ends → ⊥
+unfolding open_in open_of check_file
+opened-so s n size e =
+    both (λ (a : Answer Unit). a ≡ ends → ⊥) (eqb (length s) size) _ _
+    (both (λ (a : Answer Unit). a ≡ ends → ⊥) (good_length (length s)) _ _
+    (both (λ (a : Answer Unit). a ≡ ends → ⊥) (is_file s) (gives tt) (refuses (refusal 2 n 0)) (λ q. absurd (cc))
+    (λ q. absurd (cc)))
+    (λ q. absurd (cc)))
+    (λ q. absurd (cc)) e
+
+file-by : (t : List ℕ) (h : TableHeader) (s : List ℕ) (n : RecordNumber) (a : Answer Unit)
+    → a ⟫ (λ _. gives (files.lent t h s n)) ≡ ends → a ≡ ends
+file-by t h s n (gives u) e = absurd (cc)
+file-by t h s n ends e = refl
+file-by t h s n (refuses r) e = absurd (cc)
+
+file-so : (t : List ℕ) (h : TableHeader) (s : List ℕ) (n : RecordNumber) → files.file_of t h s n ≡ ends → ⊥
+unfolding files.file_of
+file-so t h s n e = opened-so s n h.size (file-by t h s n (open_in s n h.size) e)
+
+module _ (room : ℕ) (t : List ℕ) where
+  -- a base record that was opened is walked
+  module _ (h : TableHeader) (p : table_of t ≡ gives h) (b : Held) (q : base_of t ≡ Some b)
+      (short : length t ≤ most_table) where
+    listable : Listable t b
+    listable = record { short = short; based = record { header = h; passed = p; base = q } }
+
+    by-bytes : (a : Answer files.Lent) → files.file_of t h b.bytes b.number ≡ a
+        → files.file_of_bytes t b.bytes b.number ≡ a
+    unfolding files.file_of_bytes
+    by-bytes a e = ap (λ (x : Answer TableHeader). x ⟫ λ g. files.file_of t g b.bytes b.number) p ∙ e
+
+    lent_is : (x : files.Lent) → files.file_of t h b.bytes b.number ≡ gives x → files.lent t h b.bytes b.number ≡ x
+    unfolding files.file_of
+    lent_is x e = the-given (back (open_in b.bytes b.number h.size)
+        (λ _. gives (files.lent t h b.bytes b.number)) x e).next
+
+    by-walk : (x : files.Lent) → files.file_of_bytes t b.bytes b.number ≡ gives x
+        → Listing room t (record_line b.number (length b.bytes) ∷ walk_lines room b.bytes b.number (record_of t) 0
+        (fresh_of b.bytes))
+    by-walk x e =
+        let look = record_of t in
+        let w = whole b.bytes b.number look (λ k. room) in
+        listed b x (walk_lines room b.bytes b.number look 0 (fresh_of b.bytes)) w listable e
+        (walked b.bytes b.number look room w)
+        (reads b.bytes b.number look (λ k. room) (table_sized t b.bytes b.number x e) w.items w.count w.read w.last
+        w.listed).bound
+
+    by-file : (a : Answer files.Lent) → files.file_of t h b.bytes b.number ≡ a
+        → Listing room t (record_line b.number (length b.bytes) ∷ opened_lines room a)
+    unfolding opened_lines
+    by-file (gives x) e =
+        subst (λ (y : files.Lent). Listing room t (record_line b.number
+        (length b.bytes) ∷ walk_lines room y.base.bytes y.base.number (record_of y.table.bytes) 0
+        (fresh_of y.base.bytes)))
+        (lent_is x e) (by-walk x (by-bytes (gives x) e))
+    by-file ends e = absurd (file-so t h b.bytes b.number e)
+    by-file (refuses r) e = unopened b r listable (by-bytes (refuses r) e)
+
+  by-base : (h : TableHeader) → table_of t ≡ gives h → length t ≤ most_table → (o : Option Held) → base_of t ≡ o
+      → Listing room t (base_lines room (tables.lent t h) o)
+  unfolding base_lines
+  by-base h p short None q = refused (λ b l. let d = sym q ∙ l.based.base in absurd (cc))
+  by-base h p short (Some b) q = by-file h p b q short (files.file_of t h b.bytes b.number) refl
+
+  by-check : length t ≤ most_table → (a : Answer TableHeader) → table_of t ≡ a
+      → Listing room t (checked_lines room (a ⟫ λ h. gives (tables.lent t h)))
+  unfolding checked_lines table_lines
+  by-check short (gives h) p = by-base h p short (base_of t) refl
+  by-check short ends p = refused (λ b l. let d = sym p ∙ l.based.passed in absurd (cc))
+  by-check short (refuses r) p = refused (λ b l. let d = sym p ∙ l.based.passed in absurd (cc))
+
+  by-length : Listing room t (listing_of room t)
+  unfolding listing_of tables.checked_of
+  by-length =
+      by-test (λ (x : List Line). Listing room t x) (ltb most_table (length t)) _ _
+      (λ q. refused (λ b l. let s = l.short in let o : most_table < length t = grind (arith, nat_tests) in absurd
+      (omega arith)))
+      (λ q. by-check (grind (arith, nat_tests)) (table_of t) refl)
+
+pub listings_tell : ListingsTell
+listings_tell room t = by-length room t

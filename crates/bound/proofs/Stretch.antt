@@ -1,280 +1,197 @@
--- The stretch of a list that an item's parts take: behind the item's own entry, entry after entry agrees with the
--- item's key; each pays for itself and its lookup.
-use Prim.Native.Nat.{ℕ, zero, suc, ◌+◌, ◌-◌, ◌*◌, ◌/◌, ◌≤◌}
-use mathlib.Core.Path.{◌≡◌, refl, sym, subst, subst₂, ◌∙◌}
-use mathlib.Core.Bool.{true, false}
-use mathlib.Core.List.{List, [], ◌∷◌, map}
-use Rattle.std.specs.Prelude.{Option}
-use native.Mathlib.Nat.{le_refl}
-use native.Mathlib.Omega.{arith}
-use lib.ListN.{length}
-use lib.Dec.{ltb}
-use Rattle.fields.specs.Answer.{Answer, gives, ends, refuses}
+-- The stretch of a list that an item's parts take: entry after entry agrees with the item's key, and each pays for
+-- itself and its lookup.
+use Rattle.std.proofs.Common.{ℕ, ◌+◌, ◌-◌, ◌*◌, ◌/◌, ◌≤◌, ◌≡◌, List, [], ◌∷◌, map, length, eqb, ltb, true, false}
+use Rattle.std.proofs.Common.{Bool, refl, sym, subst, arith, length-append}
+use Rattle.std.proofs.lemmas.List.{length-map}
+use Rattle.std.specs.Prelude.{Option, Some}
+use native.Mathlib.Nat.{mul-le-mul_right}
+use borrow.Author.Tests.{eq-eqb}
+use Rattle.fields.specs.Pick.{pick}
+use Rattle.fields.specs.Answer.{Answer, gives, ends, refuses, refusal}
+use Rattle.fields.specs.Known.{known_type}
 use Rattle.fields.specs.declared.RecordNumber.{RecordNumber}
-use Rattle.fields.proofs.Cases.{both, yes}
-use Rattle.fields.proofs.Answers.{the-given}
-use Rattle.fields.proofs.Opens.{not-true}
-use Rattle.list.specs.Entry.{entry_of}
+use Rattle.fields.proofs.Cases.{both}
 use Rattle.list.specs.declared.Entry.{Entry}
-use Rattle.lookup.specs.Lookup.{lookup_in}
-use Rattle.turns.specs.State.{list_at, no_key, part_of as listPart}
-use Rattle.turns.specs.Key.{agrees, key_of}
-use Rattle.turns.specs.declared.Rest.{Rest}
-use Rattle.turns.specs.declared.Key.{Key}
-use Rattle.part.specs.Join.{judge_part, key_for}
-use Rattle.part.specs.Part.{part_found, part_looked, part_of}
-use Rattle.parts.specs.Parts.{Stepped, lists, stops, cursor, cursor_past, step_after, step_part, step_joined, step_keyed, step_entered, step_in, Listing, parts_after, parts_run, parts_from, parts_in}
-use Rattle.part.specs.declared.Part.{Part}
-use Rattle.parts.specs.declared.Cursor.{Cursor}
-use Rattle.bound.specs.Run.{Spot, spot, gave_after, gave_run, gave_from, gave_in}
-use Rattle.bound.proofs.Value.{E, E-step, pay-part, pay-last}
-use Rattle.bound.specs.Whole.{Sized}
-use Rattle.bound.proofs.Facts.{few, stood}
-use Rattle.bound.proofs.Rising as rising
-use Rattle.bound.proofs.Rising.{Rising, rising-lo}
-use Rattle.bound.proofs.Keys.{key_set, first_key, key-stays, Joins, joins}
+use Rattle.items.specs.Read.{Read, sought, joined}
+use Rattle.items.specs.State.{list_at, agrees, key_of, lies_in}
+use Rattle.items.specs.Items.{entries_of, sought_of}
+use Rattle.items.specs.declared.walk.Key.{Key}
+use Rattle.parts.specs.Part.{part_of}
+use Rattle.parts.specs.Parts.{Given, Parts, stops, reading, giving, parts_by, parts_from, parts_in, parts_of}
+use Rattle.parts.specs.declared.Part.{Part}
+use Rattle.bound.proofs.Value.{E, E-step, E-mono, pay-part, pay-last}
+use Rattle.items.proofs.Peel.{peel}
+use Rattle.bound.specs.Listing.{Sized}
+use Rattle.bound.proofs.Search.{few}
 
-module _ (s : List ℕ) (n : RecordNumber) where
-  -- the entry at the front of a list
-  abbrev pub here : Rest → Answer Entry
-  here l = entry_of (listPart s l) n l.from
+-- what holds of each side, where the test says so, holds of the choice
+pub by-test : {A : Type 0} (P : A → Type 0) (t : Bool) (x y : A) → (t ≡ true → P x) → (t ≡ false → P y)
+    → P (pick t x y)
+by-test P true x y p q = p refl
+by-test P false x y p q = q refl
 
-  -- past it
-  abbrev pub past : Rest → Entry → Rest
-  past l e = list_at (l.from + e.length) l.to
+-- where the entries end that agree with the key, one behind the other
+unfoldable pub skip : Option Key → List (Answer Entry) → ℕ → ℕ
+skip key [] from = from
+skip key (ends ∷ es) from = from
+skip key (refuses r ∷ es) from = from
+skip key (gives e ∷ es) from = pick (agrees key e) (skip key es (from + e.length)) from
 
-  -- the c entries from the front of l up to g agree with the key k
-  abbrev pub Run : Key → ℕ → Rest → ℕ → Type 0
-  Run k zero l g = l.from ≡ g
-  Run k (suc c) l g = (e : Entry) × (here l ≡ gives e) × (agrees k e (listPart s l) ≡ true) × Run k c (past l e) g
+pub skip-ge : (key : Option Key) (es : List (Answer Entry)) (from : ℕ) → from ≤ skip key es from
+unfolding skip
+skip-ge key [] from = omega arith
+skip-ge key (ends ∷ es) from = omega arith
+skip-ge key (refuses r ∷ es) from = omega arith
+skip-ge key (gives e ∷ es) from = both (λ (x : ℕ). from ≤ x) (agrees key e) _ _
+    (omega (arith, skip-ge key es (from + e.length))) (omega arith)
 
-  -- one entry off the front of a stretch: what is left begins past the entry, and ends no earlier
-  pub record Peeled (k : Key) (l : Rest) (e : Entry) (g : ℕ) : Type 0 where
-    pub count : ℕ
-    pub end : ℕ
-    pub run : Run k count (past l e) end
-    pub later : g ≤ end
+-- behind an entry it ends no earlier
+pub skip-on : (key : Option Key) (e : Entry) (es : List (Answer Entry)) (from : ℕ)
+    → skip key (gives e ∷ es) from ≤ skip key es (from + e.length)
+unfolding skip
+skip-on key e es from = both (λ (x : ℕ). x ≤ skip key es (from + e.length)) (agrees key e) _ _ (omega arith)
+    (omega (arith, skip-ge key es (from + e.length)))
 
-  pub peel : (k : Key) (l : Rest) (e : Entry) (c g : ℕ) → here l ≡ gives e → Run k c l g → Peeled k l e g
-  peel k l e zero g q r = record { count = 0; end = l.from + e.length; run = refl; later = omega arith }
-  peel k l e (suc c) g q r =
-      let same : r.0 ≡ e = the-given (sym r.1 ∙ q) in
-      record { count = c; end = g; run = subst (λ (x : Entry). Run k c (past l x) g) same r.3; later = le_refl g }
+pub skip-yes : (key : Option Key) (e : Entry) (es : List (Answer Entry)) (from : ℕ) → agrees key e ≡ true
+    → skip key (gives e ∷ es) from ≡ skip key es (from + e.length)
+unfolding skip
+skip-yes key e es from a = rw a
 
-  -- an entry that does not agree begins no stretch
-  pub no-stretch : (k : Key) (l : Rest) (e : Entry) (c g : ℕ) → here l ≡ gives e → agrees k e (listPart s l) ≡ false
-      → Run k c l g → l.from ≡ g
-  no-stretch k l e zero g q d r = r
-  no-stretch k l e (suc c) g q d r =
-      let same : r.0 ≡ e = the-given (sym r.1 ∙ q) in
-      absurd (not-true (sym d ∙ subst (λ (x : Entry). agrees k x (listPart s l) ≡ true) same r.2))
+pub skip-no : (key : Option Key) (e : Entry) (es : List (Answer Entry)) (from : ℕ) → agrees key e ≡ false
+    → skip key (gives e ∷ es) from ≡ from
+unfolding skip
+skip-no key e es from a = rw a
 
-  -- a list that is open while the raw walk stands at `at`
-  module _ (at : ℕ) where
-    -- how many entries fit in what is left of the list from p on, and of the record
-    abbrev pub Fit : Rest → ℕ → ℕ
-    Fit l p = E (length s - at + (l.to - p))
+pub agreed : (k : Key) (e : Entry) → eqb e.instance k.instance ≡ true → eqb e.ty k.ty ≡ true
+    → agrees (Some k) e ≡ true
+unfolding agrees
+agreed k e a b = rw (a, b)
 
-    abbrev spots : List Rest → List Spot
-    spots l = map (λ r. spot at r.from) l
+pub own_key : (e : Entry) → agrees (Some (key_of e)) e ≡ true
+own_key e = agreed (key_of e) e (eq-eqb _ _ refl) (eq-eqb _ _ refl)
 
-    -- parts up to `end`: what they read is paid by what they take and one entry more, and the entries that give them
-    -- rise
-    pub record Paid (l : Rest) (reads : ℕ) (gave : List Rest) (end : ℕ) : Type 0 where
-      pub paid : reads + Fit l end * (1 + length s / 16) ≤ 1 + Fit l l.from * (1 + length s / 16)
-      pub rises : Rising (spot at l.from) (spots gave) (spot at end)
+-- parts given by entries between two places
+abbrev pub Within : ℕ → ℕ → List Given → Type 0
+Within lo hi [] = Unit {0}
+Within lo hi (g ∷ gs) = (lo ≤ g.place) × (g.place + 26 ≤ hi) × Within lo hi gs
 
-    paid-none : (l : Rest) (c : ℕ) → c ≤ 1 → Paid l c [] l.from
-    paid-none l c h = record { paid = omega arith; rises = rising.here at l.from l.from (le_refl l.from) }
+within-lo : (a b hi : ℕ) (gs : List Given) → a ≤ b → Within b hi gs → Within a hi gs
+within-lo a b hi [] h w = tt
+within-lo a b hi (g ∷ gs) h w = (omega (arith, w.0), w.1, within-lo a b hi gs h w.2)
 
-    module _ (l : Rest) (e : Entry) (q : here l ≡ gives e) where
-      step : Fit l (l.from + e.length) + 1 ≤ Fit l l.from
-      step = let i = stood s n l e q in E-step _ _ (omega (arith, i.least, i.most))
+module _ (s : List ℕ) (n : RecordNumber) (look : RecordNumber → Option (List ℕ)) (z : Sized s look) (to q : ℕ) where
+  -- how many entries fit in what is left of the list from a place on, and of the record
+  abbrev Fit : ℕ → ℕ
+  Fit p = E (q + (to - p))
 
-      -- an entry that gives no part
-      paid-last : (c : ℕ) → c ≤ length s / 16 + 1 → Paid l c [] (l.from + e.length)
-      paid-last c h = record { paid = pay-last _ c _ _ h step; rises = rising.here at l.from (l.from + e.length) (omega arith) }
+  abbrev A : ℕ
+  A = length s / 16
 
-      -- one that gives a part, before others
-      paid-more : (c r : ℕ) (gave : List Rest) (end : ℕ) → c ≤ length s / 16 → Paid (past l e) r gave end
-          → Paid l (c + 1 + r) (l ∷ gave) end
-      paid-more c r gave end h t =
-          let i = stood s n l e q in
-          record {
-            paid = pay-part _ c r _ _ _ h step t.paid;
-            rises = (
-              rising.here at l.from l.from (le_refl l.from),
-              rising-lo (spot at (l.from + 26)) (spot at (l.from + e.length)) (spot at end) (spots gave) (rising.here at (l.from + 26) (l.from + e.length) (omega (arith, i.least))) t.rises,
-            );
-          }
+  -- parts from a place on, by entries that agree up to g: what they read is paid by what they take and one entry more
+  pub record Paid (from g : ℕ) (p : Parts) : Type 0 where
+    pub paid : length p.reads + Fit g * (1 + A) ≤ 1 + Fit from * (1 + A)
+    pub within : Within from g p.given
 
-    -- parts behind the first, from the front of l on
-    pub record Took (k : Key) (l : Rest) (reads : ℕ) (gave : List Rest) : Type 0 where
-      pub count : ℕ
-      pub end : ℕ
-      pub run : Run k count l end
-      pub cost : Paid l reads gave end
+  less : (from g : ℕ) → from ≤ g → Fit g ≤ Fit from
+  less from g h = E-mono _ _ (omega arith)
 
-    took-none : (k : Key) (l : Rest) (c : ℕ) → c ≤ 1 → Took k l c []
-    took-none k l c h = record { count = 0; end = l.from; run = refl; cost = paid-none l c h }
+  step : (from by : ℕ) → 26 ≤ by → from + by ≤ to → Fit (from + by) + 1 ≤ Fit from
+  step from by a b = E-step _ _ (omega arith)
 
-    -- parts from the first on, by the entry e at the front of l: the stretch is that behind it
-    pub record Begun (k : Key) (l : Rest) (e : Entry) (reads : ℕ) (gave : List Rest) : Type 0 where
-      pub count : ℕ
-      pub end : ℕ
-      pub run : Run k count (past l e) end
-      pub cost : Paid l reads gave end
+  -- at most one read, and no part
+  stop : (from g : ℕ) (rs : List Read) (a : Answer Unit) → length rs ≤ 1 → from ≤ g
+      → Paid from g (reading rs (stops a))
+  stop from g rs a h l = record { paid = omega (arith, mul_fit from g l, length-append rs []); within = tt }
+    where
+      mul_fit : (from g : ℕ) → from ≤ g → Fit g * (1 + A) ≤ Fit from * (1 + A)
+      mul_fit from g l = mul-le-mul_right (1 + A) (less from g l)
 
-    -- what a step of the parts costs, where the entry e stands at its front
-    pub record More (k : Key) (c : Cursor) (e : Entry) (d : Cursor) (r : ℕ) : Type 0 where
-      pub found : ℕ
-      pub reads : r ≡ found + 1
-      pub few : found ≤ length s / 16
-      pub next : d ≡ cursor_past c e k
+  module _ (key : Key) where
+    -- an entry with its lookup gave its part, or its refusal
+    gave : (from by g : ℕ) (e : Entry) (rs : List Read) (a : Answer Part) (p : Parts) → 26 ≤ by → from + by ≤ to
+        → from + by ≤ g → 16 * length rs ≤ length s
+        → Paid (from + by) g p → Paid from g (reading (joined from e ∷ []) (reading rs (giving from a p)))
+    unfolding giving
+    gave from by g e rs (gives x) p l m h f i =
+        let t = step from by l m in
+        let few : length rs ≤ A = omega arith in
+        record {
+          paid = omega (
+            arith,
+            pay-part A (length rs) (length p.reads) (Fit (from + by)) (Fit from)
+                (Fit g) few t i.paid,
+            length-append rs p.reads,
+          );
+          within = (omega arith, omega arith, within-lo from (from + by) g p.given (omega arith) i.within);
+        }
+    gave from by g e rs ends p l m h f i =
+        let t = step from by l m in let u = less (from + by) g h in
+        let few : length rs + 1 ≤ A + 1 = omega arith in
+        record {
+          paid = omega (
+            arith,
+            pay-last A (length rs + 1) (Fit g) (Fit from) few
+                (omega arith),
+            length-append rs [],
+          );
+          within = tt;
+        }
+    gave from by g e rs (refuses r) p l m h f i =
+        let t = step from by l m in let u = less (from + by) g h in
+        let few : length rs + 1 ≤ A + 1 = omega arith in
+        record {
+          paid = omega (
+            arith,
+            pay-last A (length rs + 1) (Fit g) (Fit from) few
+                (omega arith),
+            length-append rs [],
+          );
+          within = tt;
+        }
 
-    abbrev Spent : Key → Cursor → Entry → Stepped → Type 0
-    Spent k c e (stops a r) = r ≤ length s / 16 + 1
-    Spent k c e (lists p d r) = More k c e d r
+    pub parts-paid : (room : ℕ) (es : List (Answer Entry)) (from : ℕ) → es ≡ entries_of s n to from
+        → Paid from (skip (Some key) es from) (parts_by s n look key room es from)
+    unfolding parts_by
+    parts-paid room [] from i = stop from _ [] (gives tt) (omega arith) (skip-ge (Some key) [] from)
+    parts-paid room (ends ∷ es) from i = stop from _ [] (gives tt) (omega arith) (skip-ge (Some key) (ends ∷ es) from)
+    parts-paid room (refuses r ∷ es) from i = stop from _ [] (refuses r) (omega arith)
+        (skip-ge (Some key) (refuses r ∷ es) from)
+    parts-paid room (gives e ∷ es) from i =
+        let k = peel s n to from e es i in
+        let g = skip (Some key) (gives e ∷ es) from in
+        let l = skip-ge (Some key) (gives e ∷ es) from in
+        let P = λ (x : Parts). Paid from g (reading (joined from e ∷ []) x) in
+        let one = λ (a : Answer Unit). stop from g (joined from e ∷ []) a (omega arith) l in
+        by-test P (eqb e.instance key.instance) _ _
+        (λ a. both P (known_type e.ty) _ _
+        (by-test P (eqb e.ty key.ty) _ _
+        (λ b. both P (ltb 0 room) _ _
+        (let t = skip-yes (Some key) e es from (agreed key e a b) in
+        subst (λ (x : ℕ). Paid from x (reading (joined from e ∷ [])
+        (reading (map (sought e.file) (sought_of s n look e from).read)
+        (giving from (part_of s n look e from) (parts_by s n look key (room - 1) es (from + e.length)))))) (sym t)
+        (gave from e.length (skip (Some key) es (from + e.length)) e
+        (map (sought e.file) (sought_of s n look e from).read) (part_of s n look e from)
+        (parts_by s n look key (room - 1) es (from + e.length))
+        k.least k.most (skip-ge (Some key) es (from + e.length))
+        (omega (arith, few s n look z e from, length-map (sought_of s n look e from).read (sought e.file)))
+        (parts-paid (room - 1) es (from + e.length) k.tail)))
+        (one (refuses (refusal 20 n from))))
+        (λ _. one (gives tt)))
+        (one (refuses (refusal 6 n from))))
+        (λ _. one (gives tt))
 
-    -- behind the first: the step takes an entry that agrees, or none
-    pub record Agreed (k : Key) (c d : Cursor) (r : ℕ) : Type 0 where
-      pub entry : Entry
-      pub stands : here c.list ≡ gives entry
-      pub agreed : agrees k entry (listPart s c.list) ≡ true
-      pub more : More k c entry d r
-
-    abbrev Fine : Key → Cursor → Stepped → Type 0
-    Fine k c (stops a r) = Took k c.list r []
-    Fine k c (lists p d r) = Agreed k c d r
-
-    fine : (k : Key) (c : Cursor) (e : Entry) → here c.list ≡ gives e → agrees k e (listPart s c.list) ≡ true
-        → (x : Stepped) → Spent k c e x → Fine k c x
-    fine k c e q a (stops b r) h = record { count = 1; end = c.list.from + e.length; run = (e, q, a, refl); cost = paid-last c.list e q r h }
-    fine k c e q a (lists p d r) h = record { entry = e; stands = q; agreed = a; more = h }
-
-    module _ (look : RecordNumber → Option (List ℕ)) (z : Sized s look) (room : ℕ) where
-      -- a part's lookup
-      looked-few : (e : Entry) (place : ℕ) (a : Answer (List ℕ)) → lookup_in s n look e.file place ≡ a
-          → (part_looked s n look e place a).reads ≤ length s / 16
-      unfolding part_looked part_found
-      looked-few e place ends q = omega arith
-      looked-few e place (refuses r) q = omega arith
-      looked-few e place (gives t) q = few s n look z e.file place t q _ _ _
-
-      part-few : (e : Entry) (place : ℕ) → (part_of s n look e place).reads ≤ length s / 16
-      unfolding part_of
-      part-few e place = looked-few e place (lookup_in s n look e.file place) refl
-
-      module _ (k : Key) where
-        after-spent : (c : Cursor) (e : Entry) (a : Answer Part) (r : ℕ) → r ≤ length s / 16
-            → Spent k c e (step_after (cursor_past c e k) a r)
-        unfolding step_after
-        after-spent c e (gives p) r f = record { found = r; reads = refl; few = f; next = refl }
-        after-spent c e ends r f = omega arith
-        after-spent c e (refuses x) r f = omega arith
-
-        part-spent : (c : Cursor) (e : Entry) (place : ℕ)
-            → Spent k c e (step_part (cursor_past c e k) (part_of s n look e place))
-        unfolding step_part
-        part-spent c e place = after-spent c e (part_of s n look e place).answer (part_of s n look e place).reads (part-few e place)
-
-        joined-spent : (i : ℕ) (c : Cursor) (e : Entry) (place : ℕ) (j : Answer Unit)
-            → Spent k c e (step_joined s n look room i (cursor_past c e k) e place j)
-        unfolding step_joined
-        joined-spent i c e place (gives u) = both (Spent k c e) (ltb i room) _ _ (part-spent c e place) (omega arith)
-        joined-spent i c e place ends = omega arith
-        joined-spent i c e place (refuses r) = omega arith
-
-        joined-fine : (i : ℕ) (c : Cursor) (e : Entry) → here c.list ≡ gives e
-            → (is : k.is ≡ true) (place : ℕ) (j : Answer Unit) → Joins k is e (listPart s c.list) j
-            → Fine k c (step_joined s n look room i (cursor_past c e k) e place j)
-        unfolding step_joined
-        joined-fine i c e q is place (gives u) a = both (Fine k c) (ltb i room) _ _ (fine k c e q a (step_part (cursor_past c e k) (part_of s n look e place)) (part-spent c e place)) (took-none k c.list 1 (le_refl 1))
-        joined-fine i c e q is place ends a = took-none k c.list 1 (le_refl 1)
-        joined-fine i c e q is place (refuses r) a = took-none k c.list 1 (le_refl 1)
-
-        -- behind the first entry the key stays
-        module _ (is : k.is ≡ true) where
-          keyed-fine : (i : ℕ) (c : Cursor) (e : Entry) → here c.list ≡ gives e → (key : Key) → key ≡ k
-              → Fine k c (step_keyed s n look room i c e (listPart s c.list) key)
-          unfolding step_keyed
-          keyed-fine i c e q key h =
-              subst (λ (x : Key). Fine k c (step_keyed s n look room i c e (listPart s c.list) x)) (sym h)
-              (joined-fine i c e q is c.list.from (judge_part k e (listPart s c.list) n c.list.from) (joins k is e (listPart s c.list) n c.list.from))
-
-          entered-fine : (i : ℕ) (c : Cursor) → c.key ≡ k → (a : Answer Entry) → here c.list ≡ a
-              → Fine k c (step_entered s n look room i c (listPart s c.list) a)
-          unfolding step_entered
-          entered-fine i c h (gives e) q =
-              keyed-fine i c e q (key_for c.key e (listPart s c.list)) (subst (λ (x : Key). key_for x e (listPart s c.list) ≡ k) (sym h) (key-stays k e (listPart s c.list) is))
-          entered-fine i c h ends q = took-none k c.list 0 (omega arith)
-          entered-fine i c h (refuses r) q = took-none k c.list 0 (omega arith)
-
-          -- what follows a step
-          module _ (on : Cursor → Listing) (gave : Cursor → List Rest) (ih : (d : Cursor) → d.key ≡ k → Took k d.list (on d).reads (gave d)) where
-            onward : (c : Cursor) (e : Entry) (d : Cursor) → d ≡ cursor_past c e k
-                → Took k (past c.list e) (on d).reads (gave d)
-            onward c e d h = subst (λ (x : Cursor). x.key ≡ k → Took k x.list (on d).reads (gave d)) h (ih d) refl
-
-            after-took : (c : Cursor) (x : Stepped) → Fine k c x
-                → Took k c.list (parts_after on x).reads (gave_after s n look room gave c.list x)
-            unfolding parts_after gave_after
-            after-took c (stops a r) f = f
-            after-took c (lists p d r) f =
-                let m = f.more in
-                let t = onward c f.entry d m.next in
-                record {
-                  count = suc t.count;
-                  end = t.end;
-                  run = (f.entry, f.stands, f.agreed, t.run);
-                  cost = subst (λ (x : ℕ). Paid c.list (x + (on d).reads) (c.list ∷ gave d) t.end) (sym m.reads)
-                      (paid-more c.list f.entry f.stands m.found (on d).reads (gave d) t.end m.few t.cost);
-                }
-
-            -- the first entry need not agree with its own key
-            after-begun : (c : Cursor) (e : Entry) → here c.list ≡ gives e → (x : Stepped) → Spent k c e x
-                → Begun k c.list e (parts_after on x).reads (gave_after s n look room gave c.list x)
-            unfolding parts_after gave_after
-            after-begun c e q (stops a r) h = record { count = 0; end = c.list.from + e.length; run = refl; cost = paid-last c.list e q r h }
-            after-begun c e q (lists p d r) m =
-                let t = onward c e d m.next in
-                record {
-                  count = t.count;
-                  end = t.end;
-                  run = t.run;
-                  cost = subst (λ (x : ℕ). Paid c.list (x + (on d).reads) (c.list ∷ gave d) t.end) (sym m.reads)
-                      (paid-more c.list e q m.found (on d).reads (gave d) t.end m.few t.cost);
-                }
-
-          took-run : (f i : ℕ) (c : Cursor) → c.key ≡ k
-              → Took k c.list (parts_run s n look room f i c).reads (gave_run s n look room f i c)
-          unfolding parts_run gave_run step_in
-          took-run zero i c h = took-none k c.list 0 (omega arith)
-          took-run (suc f) i c h =
-              after-took (parts_run s n look room f (i + 1)) (gave_run s n look room f (i + 1)) (took-run f (i + 1)) c (step_in s n look room i c) (entered-fine i c h (here c.list) refl)
-
-      -- the first step, by the item's own entry
-      first-spent : (i : ℕ) (l : Rest) (e : Entry) (a : Answer Entry) → a ≡ gives e
-          → Spent (key_of e (listPart s l)) (cursor l no_key) e (step_entered s n look room i (cursor l no_key) (listPart s l) a)
-      unfolding step_entered step_keyed
-      first-spent i l e a q =
-          let k = key_of e (listPart s l) in
-          subst (λ (x : Answer Entry). Spent k (cursor l no_key) e (step_entered s n look room i (cursor l no_key) (listPart s l) x)) (sym q)
-          (subst (λ (x : Key). Spent k (cursor l no_key) e (step_keyed s n look room i (cursor l no_key) e (listPart s l) x)) (sym (first_key e (listPart s l)))
-          (joined-spent k i (cursor l no_key) e l.from (judge_part k e (listPart s l) n l.from)))
-
-      begun-run : (f i : ℕ) (l : Rest) (e : Entry) → here l ≡ gives e
-          → Begun (key_of e (listPart s l)) l e (parts_run s n look room (suc f) i (cursor l no_key)).reads (gave_run s n look room (suc f) i (cursor l no_key))
-      unfolding parts_run gave_run step_in
-      begun-run f i l e q =
-          let k = key_of e (listPart s l) in
-          let is = key_set e (listPart s l) in
-          after-begun k is (parts_run s n look room f (i + 1)) (gave_run s n look room f (i + 1)) (took-run k is f (i + 1)) (cursor l no_key) e q (step_in s n look room i (cursor l no_key))
-          (first-spent i l e (here l) q)
-
-      -- the parts of an item found by the entry e at the front of l
-      pub begun : (l : Rest) (e : Entry) → l.is ≡ true → here l ≡ gives e
-          → Begun (key_of e (listPart s l)) l e (parts_in s n look room l).reads (gave_in s n look room l)
-      unfolding parts_in parts_from gave_in gave_from
-      begun l e o q =
-          subst₂ (λ (x : Listing) (y : List Rest). Begun (key_of e (listPart s l)) l e x.reads y) (yes l.is _ _ o refl) (yes l.is _ _ o refl) (begun-run (l.to - l.from) 0 l e q)
+  -- the parts of an item whose entry e stands at a place, with what agrees behind it
+  pub begun : (room from : ℕ) (e : Entry) (es : List (Answer Entry)) → gives e ∷ es ≡ entries_of s n to from
+      → Paid from (skip (Some (key_of e)) es (from + e.length)) (parts_of s n look room (Some (list_at from to)))
+  unfolding parts_of parts_in parts_from
+  begun room from e es i =
+      let g = skip (Some (key_of e)) es (from + e.length) in
+      let k = peel s n to from e es i in
+      let l = skip-ge (Some (key_of e)) es (from + e.length) in
+      let t = skip-yes (Some (key_of e)) e es from (own_key e) in
+      both (Paid from g) (lies_in (length s) (Some (list_at from to))) _ _
+      (subst (λ (x : List (Answer Entry)). Paid from g (parts_from s n look room x from)) i
+      (subst (λ (x : ℕ). Paid from x (parts_by s n look (key_of e) room (gives e ∷ es) from)) t
+      (parts-paid (key_of e) room (gives e ∷ es) from i)))
+      (stop from g [] (refuses (refusal 22 n 0)) (omega arith) (omega arith))

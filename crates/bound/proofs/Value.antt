@@ -3,7 +3,7 @@
 use Prim.Native.Nat.{ℕ, ◌+◌, ◌*◌, ◌/◌, ◌≤◌}
 use native.Mathlib.Nat.{mul-le-mul_right}
 use native.Mathlib.Omega.{arith}
-use Rattle.bound.specs.Whole.{most}
+use Rattle.bound.specs.Listing.{most}
 
 -- how many attributes, and how many entries, fit in n bytes
 unfoldable pub R : ℕ → ℕ
@@ -25,8 +25,7 @@ unfolding E
 E-mono k n h = omega arith
 
 -- r attributes can be read yet by the raw walk; x entries by the walk, each with a lookup of A attributes and one
--- entry more that ends its item's parts;
--- y entries by parts, each with a lookup
+-- entry more that ends its item's parts; y entries by parts, each with a lookup
 unfoldable pub val : ℕ → ℕ → ℕ → ℕ → ℕ
 val A r x y = r + x * (2 + A) + y * (1 + A)
 

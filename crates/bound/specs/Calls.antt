@@ -1,40 +1,62 @@
--- Whoever calls `next` from a fresh walk to the end or the first refusal, calls `parts` once for each item, and adds up
--- the reads reported, gets the count of the whole listing; and for any bytes at all, record and table, at most
--- a + 3e + 2ea are reported.
-use Rattle.std.specs.Prelude.{◌≡◌, ℕ, ◌+◌, ◌≤◌, List, length}
-use Rattle.fields.specs.Answer.{gives, ends, refuses}
+-- RULES 17: whoever calls `next` from fresh to the end or the first refusal, calls for the parts of each item once,
+-- and adds up the reads reported, gets the count of the whole listing; and for any bytes at all, table and record, at
+-- most a + 3e + 2ea are reported.
+use Rattle.std.specs.Prelude.{◌≡◌, ℕ, suc, ◌+◌, ◌≤◌, List, ◌++◌, length, Option}
+use Rattle.fields.specs.Answer.{gives, ends, refuses, Refused}
 use Rattle.fields.specs.declared.RecordNumber.{RecordNumber}
-use Rattle.fields.specs.declared.Refusal.{Refusal}
-use Rattle.table.specs.Check.{open_table}
 use Rattle.table.specs.Held.{record_of}
-use Rattle.table.specs.declared.TableHeader.{TableHeader}
-use Rattle.turns.specs.declared.State.{State}
-use Rattle.turns.specs.declared.Item.{Item}
-use Rattle.items.specs.Start.{fresh_of}
-use Rattle.items.specs.Items.{next_of}
-use Rattle.parts.specs.Parts.{parts_of}
-use Rattle.bound.specs.Run.{count_of}
-use Rattle.bound.specs.Whole.{most}
+use Rattle.items.specs.Told.{Lent, file_of_bytes}
+use Rattle.items.specs.State.{fresh_of}
+use Rattle.items.specs.declared.File.{File}
+use Rattle.items.specs.declared.walk.Item.{Item}
+use Rattle.items.specs.declared.walk.State.{State}
+use Rattle.bound.specs.Listing.{most, called, reported, asked, Whole}
 
-module _ (s : List ℕ) (n : RecordNumber) (t : List ℕ) (room : ℕ) where
-  -- the calls from a state on, and what they report in all
-  pub data Calls : State → ℕ → Type 0 where
-    end : (w : State) → (next_of s n t w).answer ≡ ends → Calls w (next_of s n t w).reads
-    refusal : (w : State) (r : Refusal) → (next_of s n t w).answer ≡ refuses r → Calls w (next_of s n t w).reads
-    item : (w : State) (i : Item) (c : ℕ) → (next_of s n t w).answer ≡ gives i → Calls (next_of s n t w).left c
-        → Calls w ((next_of s n t w).reads + (parts_of s n t room i.rest).reads + c)
+module _ (s : List ℕ) (n : RecordNumber) (look : RecordNumber → Option (List ℕ)) (room : ℕ → ℕ) where
+  -- the calls from a state on, where k items were given, and what they report in all
+  pub data Calls : ℕ → State → ℕ → Type 0 where
+    end : (k : ℕ) (w : State) → (called s n look room w).answer ≡ ends → Calls k w (reported s n look room w)
+    refusal : (k : ℕ) (w : State) (r : Refused) → (called s n look room w).answer ≡ refuses r
+        → Calls k w (reported s n look room w)
+    item : (k : ℕ) (w : State) (i : Item) (c : ℕ) → (called s n look room w).answer ≡ gives i
+        → Calls (suc k) (called s n look room w).left c
+        → Calls k w (reported s n look room w + length (asked s n look room k i).reads + c)
 
--- behind the opening checks they report the count of the whole listing
+  -- c is what the calls of a whole listing report in all, refusing calls included, and how much they read: of each,
+  -- for there is but one count
+  pub record Counted (c : ℕ) (w : Whole s n look room) : Type 0 where
+    pub report : w.count + reported s n look room w.last ≡ c
+    pub read : length (w.read ++ (called s n look room w.last).reads) ≡ c
+
+  abbrev pub Counts : ℕ → Type 0
+  Counts c = (w : Whole s n look room) → Counted c w
+
+-- of a file that calls are made of
+abbrev pub CountsIn : File → (ℕ → ℕ) → ℕ → Type 0
+CountsIn f room c = Counts f.base.bytes.now f.base.number (record_of f.table.bytes.now) room c
+
+-- the calls on any bytes, a table's and a record's, from the opening on
+pub data CallsOf (t s : List ℕ) (n : RecordNumber) (room : ℕ → ℕ) : ℕ → Type 0 where
+  unopened : ((x : Lent) → file_of_bytes t s n ≡ gives x → ⊥) → CallsOf t s n room 0
+  opened : (x : Lent) (c : ℕ) → file_of_bytes t s n ≡ gives x → Calls s n (record_of t) room 0 (fresh_of s) c
+      → CallsOf t s n room c
+
+-- from fresh on they report the count of the whole listing
 abbrev pub CallsCounted : Type 0
 CallsCounted =
-    (s : List ℕ) (n : RecordNumber) (t : List ℕ) (room : ℕ) (h : TableHeader) → open_table s n t ≡ gives h → (c : ℕ)
-    → Calls s n t room (fresh_of s) c → c ≡ count_of s n (record_of t) room
+    (s : List ℕ) (n : RecordNumber) (look : RecordNumber → Option (List ℕ)) (room : ℕ → ℕ) (c : ℕ)
+    → Calls s n look room 0 (fresh_of s) c → Counts s n look room c
 
 -- and for any bytes a + 3e + 2ea at most
 abbrev pub CallsBounded : Type 0
-CallsBounded =
-    (s : List ℕ) (n : RecordNumber) (t : List ℕ) (room c : ℕ) → Calls s n t room (fresh_of s) c → c ≤ most (length s)
+CallsBounded = (t s : List ℕ) (n : RecordNumber) (room : ℕ → ℕ) (c : ℕ) → CallsOf t s n room c → c ≤ most (length s)
 
 -- from every state on, the calls come to their end
 abbrev pub CallsEnd : Type 0
-CallsEnd = (s : List ℕ) (n : RecordNumber) (t : List ℕ) (room : ℕ) (w : State) → (c : ℕ) × Calls s n t room w c
+CallsEnd =
+    (s : List ℕ) (n : RecordNumber) (look : RecordNumber → Option (List ℕ)) (room : ℕ → ℕ) (k : ℕ) (w : State)
+    → (c : ℕ) × Calls s n look room k w c
+
+-- and so do those on any bytes
+abbrev pub CallsOfEnd : Type 0
+CallsOfEnd = (t s : List ℕ) (n : RecordNumber) (room : ℕ → ℕ) → (c : ℕ) × CallsOf t s n room c

@@ -1,7 +1,8 @@
--- A whole listing: what it reads, as a count and as a trail, and what is promised of it.
-pub mod Run
-pub mod Trail
-pub mod Whole
+-- What a whole listing reads: the theorem, over runs of the public calls.
+pub mod Replay
+pub mod Listing
+pub mod Ends
 pub mod Calls
-pub mod Printed
 pub mod Lists
+pub mod Told
+pub mod Printed

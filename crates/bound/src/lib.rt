@@ -1,39 +1,97 @@
-// What is promised of a whole listing: laws of the definitions that the crates below are proved equal to, each the
-// contract of a function that does nothing.
+// What is promised of a whole listing, over runs of the public calls (RULES 17).
 #![tactic(auto)]
 
-ghost use Rattle.bound.specs.Whole.{EveryLookup, EveryTable, Every1024, EveryEnd};
-ghost use Rattle.bound.specs.Calls.{CallsCounted, CallsBounded, CallsEnd};
+ghost use Rattle.bound.specs.Listing.{EveryLookup, EveryTable, EveryFile, EveryPart, Every1024};
+ghost use Rattle.bound.specs.Ends.{EveryEnd};
+ghost use Rattle.bound.specs.Calls.{CountsIn, CallsCounted, CallsBounded, CallsEnd, CallsOfEnd};
+ghost use Rattle.bound.specs.Lists.{EveryStep, EveryRead, EveryEntry};
+ghost use Rattle.bound.specs.Told.{room, Tells};
 ghost use Rattle.bound.specs.Printed.{WalksTell, ListingsTell};
-ghost use Rattle.bound.specs.Lists.{EveryStep};
 
-// A whole listing reads at most a + 3e + 2ea attributes and entries, tells each of them, and gives no part to two
-// items.
+use items::File;
+use parts::{MOST_PARTS, Part, fill};
+use table::Table;
+
+/// A listing reads at most a + 3e + 2ea attributes and entries, each told once and in its place, and no entry gives a
+/// part to two items.
 pub fn listings_are_bounded()
     ensures lookup { EveryLookup }
     ensures table { EveryTable }
+    ensures file { EveryFile }
+    ensures part { EveryPart }
     ensures kilobyte { Every1024 }
 {}
 
-// It comes to the walk's end or its first refusal: more calls would change nothing.
+/// It comes to the walk's end or its first refusal, and more calls change nothing.
 pub fn listings_end()
     ensures { EveryEnd }
 {}
 
-// The reads that the calls report add up to its count, and any bytes at all have calls that come to an end.
+/// The reads that the calls report add up to its count, and any bytes at all have calls that come to an end.
 pub fn calls_are_counted()
     ensures counted { CallsCounted }
     ensures bounded { CallsBounded }
     ensures ended { CallsEnd }
+    ensures all { CallsOfEnd }
 {}
 
-// The listing prints that count in its last line.
+/// The listing prints that count in its last line.
 pub fn listings_tell_their_count()
     ensures walk { WalksTell }
     ensures table { ListingsTell }
 {}
 
-// A list is told by where its attribute ends.
+/// A list is told by where its attribute ends.
 pub fn lists_are_told_apart()
-    ensures { EveryStep }
+    ensures step { EveryStep }
+    ensures read { EveryRead }
+    ensures entry { EveryEntry }
 {}
+
+/// What the calls of a whole listing report in all, with room for all parts of each item.
+pub fn reads_of(file: &File) -> u64
+    ensures { CountsIn file.now room result }
+{
+    let mut list = [Part::BLANK; MOST_PARTS];
+    let mut at = file.fresh();
+    let mut reads: u64 = 0;
+    // No `for` over items(): the reads of each call count, and of the one that ends the walk too.
+    'items: loop {
+        let walked = file.next(at);
+        reads += walked.reads;
+        let item = match walked.answer {
+            Ok(Some(item)) => item,
+            Ok(None) => break 'items,
+            Err(_) => break 'items,
+        };
+        let told = fill(file, item.rest, &mut list);
+        reads += told.reads;
+        at = walked.left;
+    }
+    reads
+}
+
+/// What a listing of a table tells in the end: that the table is refused or has no base row, that its base record is
+/// refused, or the reads of the listing.
+#[derive(Clone, Copy)]
+pub enum Told {
+    TableRefused,
+    BaseRefused,
+    Reads(u64),
+}
+
+/// The listing of a table's base record, for any bytes.
+pub fn reads_of_bytes(table: &[u8]) -> Told
+    ensures { Tells table.now result }
+{
+    let Ok(table) = Table::check(table) else {
+        return Told::TableRefused;
+    };
+    let Some((number, bytes)) = table.base() else {
+        return Told::TableRefused;
+    };
+    match File::open(table, bytes, number) {
+        Ok(file) => Told::Reads(reads_of(&file)),
+        Err(_) => Told::BaseRefused,
+    }
+}

@@ -1,11 +1,13 @@
-// The listing for programs in C and in Rust to link: `rt staticlib cabi` writes the archive.
+//! The listing for programs in C and in Rust to link.
 #![tactic(auto)]
 
-ghost use Rattle.std.specs.Prelude.{◌≡◌, length};
-ghost use Rattle.lines.specs.Listing.{listing_of};
-ghost use Rattle.lines.specs.Pages.{page_of, Lists};
+ghost use Rattle.std.specs.Prelude.{◌≡◌, ◌++◌, List, ℕ, length, take, false};
+ghost use Rattle.lines.specs.Line.{lines_text};
+ghost use Rattle.lines.specs.Listing.{most_parts, listing_of};
+ghost use Rattle.lines.specs.Page.{page_of, Lists};
 
-// How many bytes of the buffer the listing fills, and whether there is more of it than there was room for.
+/// How many bytes of the buffer the listing fills, and whether there is more of it than there was room for.
+// A type of its own beside that of lines, and a count beside the buffer: C needs this layout.
 #[repr(C)]
 #[derive(Clone, Copy)]
 pub struct Filled {
@@ -13,14 +15,18 @@ pub struct Filled {
     pub more: bool,
 }
 
-// `lines::list` for C: each slice is a pointer and a length, and the two may not overlap.
+/// `lines::list` for C: each slice is a pointer and a length in bytes, and the two may not overlap.
 #[unsafe(no_mangle)]
-pub extern "C" fn nomutanku_list<'a>(t: &'a [u8], out: &mut [u8]) -> Filled
-    ensures { Lists (page_of (length out.old) (listing_of t.now)) out.old out.new (record { end = result.end; more = result.more }) }
+pub extern "C" fn nomutanku_list(table: &[u8], out: &mut [u8]) -> Filled
+    ensures page { Lists (page_of (length out.old) (listing_of most_parts table.now)) out.old out.new
+        (record { end = result.end; more = result.more }) }
+    ensures front { (rest : List ℕ) ×
+        (take result.end out.new ++ rest ≡ lines_text (listing_of most_parts table.now)) }
+    ensures whole { result.more ≡ false → take result.end out.new ≡ lines_text (listing_of most_parts table.now) }
 {
-    let l = lines::list(t, out);
+    let listed = lines::list(table, out);
     Filled {
-        end: l.end,
-        more: l.more,
+        end: listed.end,
+        more: listed.more,
     }
 }

@@ -1,6 +1,7 @@
--- What the listing's proofs lean on: the lines that are still to come, and what a call tells of them.
-pub mod Comes
-pub mod Tellings
-pub mod Filled
+pub mod Fronts
+pub mod Rests
+pub mod Wents
+pub mod Ends
+pub mod Fills
 pub mod Whole
-pub mod Settled
+pub mod Calls

@@ -1,5 +1,10 @@
--- The definition's chapter on the listing: that of a table, what is still to come of one that is being made, and the
--- listing in a lent buffer.
+-- The definition's chapter on the listing: its lines and their text, what is still to come, and how it goes out.
+pub mod Line
+pub mod Told
 pub mod Listing
-pub mod Making
-pub mod Pages
+pub mod InFile
+pub mod Rest
+pub mod Begun
+pub mod Page
+pub mod Went
+pub mod Laws

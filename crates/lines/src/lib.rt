@@ -1,88 +1,68 @@
-// The listing of a table as a value: its lines, one a call or as many as a buffer holds.
+//! The listing of a table (docs/RULES.md, section 18): its lines one by one, and their text in a lent buffer or to a
+//! writer.
 #![tactic(auto)]
 
-pub mod inner;
+mod fill;
+mod item;
+pub mod laws;
+mod line;
+mod open;
+mod put;
+mod walk;
+mod write;
 
-ghost use Rattle.std.specs.Prelude.{◌≡◌, length};
-ghost use Rattle.lines.specs.Listing.{listing_of};
-ghost use Rattle.lines.specs.Making.{starting};
-ghost use Rattle.lines.specs.Pages.{page_of, Lists};
+pub use fill::{Listed, list};
+pub use line::{AttributeLine, Contents, Line, Name};
+use parts::Part;
+pub use put::put_line;
+pub use walk::Walk;
+pub use write::write_listing;
 
-use table::TableHeader;
-use turns::State;
-
-// Where a listing stands: before its first line, among its items, before the line that says by which number it is
-// refused, or behind its last line.
+/// The lines of a listing that are still to come. No memory is allocated: the parts of the last item stand in a list
+/// that the caller lends, and lends again to the next call as this one left it.
+// There is no heap, so the parts stand in a list that the caller lends, with their count here. The list is no field,
+// and this no iterator: the compiler refuses a struct that holds such a list beside a walk, wherever one is made.
 #[derive(Clone, Copy)]
-pub enum Stage {
-    Start,
-    Items,
-    Stopped(u8),
-    Done,
-}
-
-// A listing that is being made. Among its items: the table's numbers, the walk, what was read so far, and how many of
-// the last item's
-// parts have their lines already, of how many. Elsewhere these mean nothing but for the reads.
-#[derive(Clone, Copy)]
-pub struct Making {
-    pub stage: Stage,
-    pub h: TableHeader,
-    pub walk: State,
-    pub reads: u64,
+pub struct Lines<'a> {
+    pub first: Option<Line>,
     pub shown: usize,
     pub count: usize,
+    pub walk: Option<Walk<'a>>,
+    pub last: Option<Line>,
 }
 
-// What a call told: where the text now ends, and the listing from there on. `more` says of one line that there was
-// one, of a page that more is to come.
-#[derive(Clone, Copy)]
-pub struct Told {
-    pub next: Making,
-    pub end: usize,
-    pub more: bool,
-}
+impl<'a> Lines<'a> {
+    ghost use Rattle.std.specs.Prelude.{◌≡◌, length};
+    ghost use Rattle.lines.specs.Rest.{Gives};
 
-// A listing before its first line.
-pub fn start() -> Making
-    ensures { result ≡ starting }
-{
-    Making {
-        stage: Stage::Start,
-        h: TableHeader {
-            count: 0,
-            size: 0,
-            directory: 0,
-            records: 0,
-            base: 0,
-        },
-        walk: State {
-            raw: 0,
-            list: turns::inner::no_list(),
-            key: turns::inner::no_key(),
-        },
-        reads: 0,
-        shown: 0,
-        count: 0,
-    }
-}
-
-// How far the listing went: how many bytes of the buffer it fills, and whether there is more of it.
-#[derive(Clone, Copy)]
-pub struct Listed {
-    pub end: usize,
-    pub more: bool,
-}
-
-// The listing of a table, into a lent buffer: all of it, or its first lines where 256 bytes are not left for the next
-// one.
-pub fn list<'a>(t: &'a [u8], out: &mut [u8]) -> Listed
-    ensures { Lists (page_of (length out.old) (listing_of t.now)) out.old out.new result }
-{
-    let mut numbers = [0u64; 785];
-    let r = inner::fill(t, start(), &mut numbers, out);
-    Listed {
-        end: r.end,
-        more: r.more,
+    /// The next line, or that all have been given. There is room for as many parts as the list is long.
+    // A first line, parts, the walk and a last line in turn: a line a call, as nothing else keeps the place.
+    #[inline(always)]
+    #[tactic(auto, using(crate::proofs::Rests::rests))]
+    pub fn next(&mut self, parts: &mut [Part]) -> Option<Line>
+        ensures gives { Gives parts.old self.old result parts.new self.new }
+        ensures size { length parts.new ≡ length parts.old }
+    {
+        if let Some(line) = self.first {
+            self.first = None;
+            return Some(line);
+        }
+        if self.shown < self.count && self.shown < parts.len() {
+            let part = parts[self.shown];
+            self.shown += 1;
+            return Some(Line::Part(part));
+        }
+        if let Some(walk) = &mut self.walk {
+            let stepped = walk.step(parts);
+            self.shown = 0;
+            self.count = stepped.count;
+            if stepped.last {
+                self.walk = None;
+            }
+            return Some(stepped.line);
+        }
+        let line = self.last?;
+        self.last = None;
+        Some(line)
     }
 }

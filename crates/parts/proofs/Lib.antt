@@ -1,5 +1,6 @@
--- What the parts' proofs and the layers above lean on: what the opening checks show, how a list is filled from the front,
--- and that the contract settles its result.
-pub mod Opens
-pub mod Fills
+pub mod Leads
+pub mod Steps
+pub mod Calls
+pub mod Puts
+pub mod Rooms
 pub mod Settled

@@ -1,26 +1,23 @@
--- Two results that both meet the contract of `collect` are equal: which parts, how many,
--- how they end and what was read are all told.
-use mathlib.Core.Path.{◌≡◌, sym, ap, ◌∙◌}
-use mathlib.Core.List.{List}
-use Prim.Native.Nat.{ℕ}
-use Rattle.std.specs.Prelude.{Result}
-use Rattle.fields.specs.declared.Refusal.{Refusal}
+-- Two results that report the same are equal, and so are the lists that they left.
+use Rattle.std.proofs.Common.{◌≡◌, sym, refl, ap, ◌∙◌}
+use Rattle.fields.specs.Laws.{Settles}
 use Rattle.fields.proofs.Settled.{told-settled}
-use Rattle.parts.specs.Parts.{Listing, Collects}
-use Rattle.part.specs.declared.Part.{Part}
-use Rattle.parts.specs.declared.Collected.{Collected}
+use Rattle.parts.specs.declared.Filled.{Filled}
+use Rattle.parts.specs.Filled.{Told, collected}
+use Rattle.parts.specs.Laws.{FilledSettle}
 
-made : List Part → ℕ → Result Unit Refusal → ℕ → Collected
-made p n e k = record { parts = p; count = n; answer = e; reads = k }
+same : (r t : Filled) → r.count ≡ t.count → r.answer ≡ t.answer → r.reads ≡ t.reads → r ≡ t
+same r t c a k = rw (c, a, k) refl
 
-pub collected-settled : {l : Listing} {before : List Part} {r t : Collected} → Collects l before r → Collects l before t → r ≡ t
-unfolding made
-collected-settled {l} {before} {r} {t} p q =
-    let a = p.parts ∙ sym q.parts in
-    let b = p.count ∙ sym q.count in
-    let c = told-settled {r = r.answer} {t = t.answer} p.answer q.answer in
-    let d = p.reads ∙ sym q.reads in
-    let e : made r.parts r.count r.answer r.reads ≡ made t.parts t.count t.answer t.reads =
-    ap (λ x. made x r.count r.answer r.reads) a ∙ ap (λ x. made t.parts x r.answer r.reads) b
-    ∙ ap (λ x. made t.parts t.count x r.reads) c ∙ ap (made t.parts t.count t.answer) d in
-    e
+pub filled_settle : FilledSettle
+filled_settle xs ys r t a e h =
+    let x = e ∙ sym h in (
+      ap (λ (z : Told). z.list) x,
+      same r t (ap (λ (z : Told). z.count) x) (told-settled r.answer t.answer _ (ap (λ (z : Told). z.answer) x) refl)
+          (ap (λ (z : Told). z.reads) x),
+    )
+
+pub collected_settle : Settles collected
+collected_settle r t a e h =
+    let w = filled_settle r.parts t.parts r.filled t.filled a e h in let x = w.0 in let y = w.1 in
+    rw (x, y) refl

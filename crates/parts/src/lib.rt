@@ -1,75 +1,218 @@
-// The parts of an item: the attributes of one stream, in the order of the list's entries.
+// The parts of an item, written to a lent list (RULES 15).
 #![tactic(auto)]
 
-pub mod inner;
+pub mod laws;
 
-ghost use Rattle.fields.specs.Answer.{told};
-ghost use Rattle.parts.specs.Parts.{listing, parts_of, blank_parts, Collects};
-ghost use Rattle.std.specs.Prelude.{[]};
+ghost use Rattle.std.specs.Prelude.{◌≡◌, ◌-◌, ◌*◌, ◌≤◌, min, length};
+ghost use Rattle.fields.specs.Told.{told, told_report};
+ghost use Rattle.record.specs.Laws.{shown_record};
+ghost use Rattle.items.specs.State.{Lies};
+ghost use Rattle.items.specs.OfFile.{size_of};
+ghost use Rattle.parts.specs.Part.{part_in};
+ghost use Rattle.parts.specs.OfFile.{part_at, parts_keyed, parts_behind, parts_of_file};
+ghost use Rattle.parts.specs.Filled.{told_parts, filled, ended, most_parts, blank_parts, collected};
 
-use fields::{RecordNumber, Refusal};
-use part::Part;
-use turns::{Key, Rest};
+use fields::{Cause, Counted, RecordNumber, Refusal, Vcn, known_type};
+use items::{File, Key, Rest};
+use list::Entry;
+use record::{FullHeader, Located, Span};
 
-// Where the parts stand: the rest of the list, and the key that its first entry told, if it was read.
-#[derive(Clone, Copy)]
-pub struct Cursor {
-    pub list: Rest,
-    pub key: Key,
+/// A part: the record that holds it, its attribute's offset there, its own lowest VCN, where its run bytes stand in
+/// that record, the stream's data size in bytes, and the lowest VCN that its list entry tells.
+#[derive(Clone, Copy, PartialEq, Eq)]
+pub struct Part {
+    pub file: RecordNumber,
+    pub offset: usize,
+    pub lowest: Vcn,
+    pub runs: Span,
+    pub size: u64,
+    pub listed: Vcn,
 }
 
-// What one step of the parts says: the next part, or that the parts end, whole or by a refusal.
-#[derive(Clone, Copy)]
-pub enum PartKind {
-    Lists(Part),
-    Stops(Result<(), Refusal>),
-}
+/// As many entries as a list in the largest record has room for, 4,096 / 26: with room for so many parts, 20 never
+/// comes.
+pub const MOST_PARTS: usize = 157;
 
-// It, with where the next step begins and what was read.
+/// How many parts were written, whether they are whole, and what was read.
+// A count beside a lent list, since there is no heap: the caller lends the room.
 #[derive(Clone, Copy)]
-pub struct PartTurn {
-    pub kind: PartKind,
-    pub next: Cursor,
-    pub reads: u64,
-}
-
-// Up to 157 parts by value, as many as a list of 4,096 bytes can have entries: how many there are, whether they are whole, and what was read.
-// The rest of the array is blank.
-#[derive(Clone, Copy)]
-pub struct Collected {
-    pub parts: [Part; 157],
+pub struct Filled {
     pub count: usize,
     pub answer: Result<(), Refusal>,
     pub reads: u64,
 }
 
-#[tactic(auto, unfolding(crate::specs::Parts::filled, crate::specs::Parts::blank_parts))]
-fn none(answer: Result<(), Refusal>) -> Collected
-    ensures { Collects (listing [] (told answer) 0) blank_parts result }
+/// Up to `MOST_PARTS` parts by value, and what was reported of them.
+#[derive(Clone, Copy)]
+pub struct Collected {
+    pub parts: [Part; MOST_PARTS],
+    pub filled: Filled,
+}
+
+impl Part {
+    /// What stands in a list before a part is written there.
+    // A constant and no `Default`, so that an array of it needs no call.
+    pub const BLANK: Part = Part {
+        file: RecordNumber(0),
+        offset: 0,
+        lowest: Vcn(0),
+        runs: Span { from: 0, bytes: 0 },
+        size: 0,
+        listed: Vcn(0),
+    };
+}
+
+// The part of an attribute that was found: 19, then 7, then 12.
+#[tactic(auto, unfolding(crate::specs::Part::part_in, crate::specs::Part::part_after))]
+fn part_in(found: &Located, e: &Entry) -> Result<Part, Refusal>
+    ensures { told result ≡ part_in e.now (shown_record found.now.within) found.now.attribute }
 {
-    Collected {
-        parts: [inner::blank(); 157],
+    if found.attribute.resident {
+        return found.refused(Cause::PartResident);
+    }
+    let FullHeader::NonResident(f) = found.full()? else {
+        return found.refused(Cause::PartResident);
+    };
+    let from = usize::from(f.runs_offset);
+    if found.attribute.length < from {
+        return found.refused(Cause::RunsOffset);
+    }
+    Ok(Part {
+        file: found.within.number,
+        offset: found.attribute.offset,
+        lowest: f.lowest,
+        runs: Span {
+            from: found.attribute.offset + from,
+            bytes: found.attribute.length - from,
+        },
+        size: f.size,
+        listed: e.lowest,
+    })
+}
+
+// The part that an entry at a place leads to: looked up, found, and judged.
+#[tactic(auto, using(crate::proofs::Leads::leads))]
+fn part_by(file: &File, e: &Entry, place: usize) -> Counted<Part>
+    ensures answer { told_report result ≡ part_at file.now e.now place }
+    ensures few { 16 * result.reads ≤ size_of file.now }
+{
+    let found = file.sought(e, place);
+    let answer = match found.answer {
+        Ok(located) => part_in(&located, e),
+        Err(r) => Err(r),
+    };
+    Counted {
+        answer,
+        reads: found.reads,
+    }
+}
+
+// The parts by the entries that go on with the stream of a key, from a list's front on.
+#[tactic(auto, using(crate::proofs::Steps::steps))]
+fn fill_inside(file: &File, from: Rest, key: Key, list: &mut [Part]) -> Filled
+    requires { Lies (size_of file.now) from }
+    ensures parts { filled list.new result ≡ told_parts list.old (parts_keyed file.now key (length list.old) from) }
+    ensures fits { result.count ≤ length list.old }
+    ensures size { length list.new ≡ length list.old }
+    ensures few { result.reads ≤ 257 * (from.to - from.from) }
+{
+    let number = file.base.number;
+    // A loop that counts, and no iterator: 20 comes before the lookup, and each way out tells the count and the reads.
+    let mut at = from;
+    let mut count: usize = 0;
+    let mut reads: u64 = 0;
+    let answer = 'entries: loop {
+        let rest = &file.base.bytes[at.from..at.to];
+        let e = match list::header(rest, number, at.from) {
+            Ok(Some(e)) => e,
+            Ok(None) => break 'entries Ok(()),
+            Err(r) => break 'entries Err(r),
+        };
+        reads += 1;
+        // Not one comparison of keys: an unknown type is 6 only where the instance agrees, and before the types are
+        // compared.
+        if e.instance != key.instance {
+            break 'entries Ok(());
+        }
+        if !known_type(e.ty) {
+            break 'entries file.base.refused(Cause::UnknownType, at.from);
+        }
+        if e.ty != key.ty {
+            break 'entries Ok(());
+        }
+        if count == list.len() {
+            break 'entries file.base.refused(Cause::NoRoom, at.from);
+        }
+        let found = part_by(file, &e, at.from);
+        reads += found.reads;
+        let next = match found.answer {
+            Ok(p) => p,
+            Err(r) => break 'entries Err(r),
+        };
+        list[count] = next;
+        count += 1;
+        at.from += e.length;
+    };
+    Filled {
+        count,
+        answer,
+        reads,
+    }
+}
+
+// Ended before the first part.
+fn none(answer: Result<(), Refusal>) -> Filled
+    ensures { result ≡ ended answer }
+{
+    Filled {
         count: 0,
         answer,
         reads: 0,
     }
 }
 
-// The parts of an item, from its list on: 21, 1, 2 and 22 first. An item without a list has none. Room for 157 is room for every list of a record.
-#[tactic(auto, using(crate::proofs::Opens::ready, crate::proofs::Opens::ordered, crate::proofs::Opens::within), unfolding(crate::specs::Parts::parts_of, crate::specs::Parts::parts_opened, crate::specs::Parts::parts_in))]
-pub fn collect<'a>(base: &'a [u8], number: RecordNumber, t: &'a [u8], l: Rest) -> Collected
-    ensures { Collects (parts_of base.now number t.now 157 l) blank_parts result }
+// The parts by a list inside the record: its first entry tells the key.
+#[tactic(auto, using(crate::proofs::Steps::fronts))]
+fn fill_from(file: &File, from: Rest, list: &mut [Part]) -> Filled
+    requires { Lies (size_of file.now) from }
+    ensures parts { filled list.new result ≡ told_parts list.old (parts_behind file.now (length list.old) from) }
+    ensures fits { result.count ≤ length list.old }
+    ensures size { length list.new ≡ length list.old }
+    ensures few { result.reads ≤ 257 * (from.to - from.from) }
 {
-    match table::opening(base, number, t) {
+    let front = &file.base.bytes[from.from..from.to];
+    match list::header(front, file.base.number, from.from) {
+        Ok(Some(e)) => fill_inside(file, from, Key::of(&e), list),
+        Ok(None) => none(Ok(())),
         Err(r) => none(Err(r)),
-        Ok(h) => match items::inside(base, number, l) {
-            Err(r) => none(Err(r)),
-            Ok(()) => {
-                if l.is {
-                    return inner::collect(base, number, t, h, l);
-                }
-                none(Ok(()))
-            }
-        },
     }
+}
+
+/// The parts of an item, by its list from its own entry on, written to the front of a lent list: 22, then the steps.
+/// There is room for as many as the list is long; 20 where that is not enough. An item without a list has none.
+#[tactic(auto, using(crate::proofs::Calls::calls))]
+pub fn fill(file: &File, rest: Option<Rest>, list: &mut [Part]) -> Filled
+    ensures parts { filled list.new result ≡ told_parts list.old (parts_of_file file.now (length list.old) rest) }
+    ensures fits { result.count ≤ length list.old }
+    ensures size { length list.new ≡ length list.old }
+    ensures few { result.reads ≤ 257 * size_of file.now }
+{
+    match file.inside(rest) {
+        Ok(()) => match rest {
+            Some(from) => fill_from(file, from, list),
+            None => none(Ok(())),
+        },
+        Err(r) => none(Err(r)),
+    }
+}
+
+/// The same by value, with room for up to `MOST_PARTS` parts: for callers that lend no list. What stands behind them
+/// is blank.
+#[tactic(auto, unfolding(crate::specs::Filled::blank_parts))]
+pub fn collect(file: &File, rest: Option<Rest>, room: usize) -> Collected
+    ensures { collected result ≡ told_parts blank_parts (parts_of_file file.now (min room most_parts) rest) }
+{
+    let mut parts = [Part::BLANK; MOST_PARTS];
+    let filled = fill(file, rest, &mut parts[..room.min(MOST_PARTS)]);
+    Collected { parts, filled }
 }

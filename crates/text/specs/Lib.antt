@@ -1,4 +1,3 @@
--- The definition's chapter on text: words, decimal numbers, and what it means to put a piece of text behind another.
+-- Text: words and decimal numbers, and what it means to put one piece behind another.
 pub mod Decimal
-pub mod Words
 pub mod Put

@@ -1,8 +1,8 @@
-use Rattle.bound.proofs.Printed.{printed, listing-listed}
+use Rattle.bound.proofs.Printed.{walks_tell, listings_tell}
 use Rattle.bound.proofs.listings_tell_their_count.Goals as goal
 
 pub returns-clause-walk : goal.returns-clause-walk
-returns-clause-walk c = printed
+returns-clause-walk c = walks_tell
 
 pub returns-clause-table : goal.returns-clause-table
-returns-clause-table c = listing-listed
+returns-clause-table c = listings_tell

@@ -1,0 +1,111 @@
+-- The calls of a program are a listing.
+use Rattle.std.proofs.Common.{ℕ, suc, ◌+◌, ◌/◌, ◌≤◌, ◌≡◌, List, [], ◌∷◌, ◌++◌, length, set, refl, sym, ap}
+use Rattle.std.proofs.Common.{subst, ◌∙◌, arith, length-set}
+use native.Mathlib.Nat.{mul-le-mul}
+use Rattle.fields.specs.Answer.{gives}
+use Rattle.fields.specs.Told.{told_step}
+use Rattle.table.specs.Held.{record_of}
+use Rattle.items.specs.Read.{Read}
+use Rattle.items.specs.State.{fresh_of}
+use Rattle.items.specs.Items.{Left, next_of}
+use Rattle.items.specs.Walked.{told_next, report_of}
+use Rattle.items.specs.declared.File.{File}
+use Rattle.items.specs.declared.walk.Item.{Item}
+use Rattle.items.specs.declared.walk.State.{State}
+use Rattle.items.specs.declared.walk.Walked.{Walked}
+use Rattle.parts.specs.Parts.{Given, Parts, parts_of}
+use Rattle.parts.specs.Filled.{Told, put, told_parts, filled}
+use Rattle.parts.specs.declared.Part.{Part}
+use Rattle.parts.specs.declared.Filled.{Filled}
+use Rattle.bound.specs.Listing.{most, reported, asked, Listed, fresh, item}
+use Rattle.bound.specs.Calls.{Counts}
+use Rattle.bound.specs.Told.{room}
+use Rattle.bound.proofs.Tables.{every_file}
+use Rattle.bound.proofs.Calls.{counts_so}
+
+put-size : (xs : List Part) (k : ℕ) (gs : List Given) → length (put xs k gs) ≡ length xs
+unfolding put
+put-size xs k [] = refl
+put-size xs k (g ∷ gs) = put-size (set xs k g.part) (k + 1) gs ∙ length-set xs k g.part
+
+pub told_size : (xs ys : List Part) (r : Filled) (p : Parts) → filled ys r ≡ told_parts xs p → length ys ≡ length xs
+unfolding told_parts
+told_size xs ys r p e = ap (λ (t : Told). length t.list) e ∙ put-size xs 0 p.given
+
+told-reads : (xs ys : List Part) (r : Filled) (p : Parts) → filled ys r ≡ told_parts xs p → r.reads ≡ length p.reads
+unfolding told_parts
+told-reads xs ys r p e = ap (λ (t : Told). t.reads) e
+
+small : (m : ℕ) → m ≤ 4096 → most m ≤ 100000
+small m h =
+    let a : m / 16 ≤ 256 = omega arith in
+    let e : m / 26 ≤ 157 = omega arith in
+    omega (arith, mul-le-mul e a)
+
+module _ (f : File) where
+  abbrev s : List ℕ
+  s = f.base.bytes.now
+
+  abbrev Run : ℕ → ℕ → List Read → State → Type 0
+  Run k c read w = Listed s f.base.number (record_of f.table.bytes.now) room k c read w
+
+  abbrev call : State → Left
+  call w = next_of s f.base.number (record_of f.table.bytes.now) w
+
+  -- a listing that came to a state
+  pub record Sofar (c : ℕ) (w : State) : Type 0 where
+    pub items : ℕ
+    pub read : List Read
+    pub listed : Run items c read w
+
+  pub begin : (w : State) → w ≡ fresh_of s → Sofar 0 w
+  begin w e = record { items = 0; read = []; listed = subst (Run 0 0 []) (sym e) fresh }
+
+  few-by : (c : ℕ) (w : State) (l : Sofar c w) → c + reported s f.base.number
+      (record_of f.table.bytes.now) room w ≤ 100000
+  few-by c w l =
+      let k = ((every_file f room).reads l.items c l.read w l.listed).bound in
+      let m = small (length s) f.base.most in
+      omega arith
+
+  pub fits : (c : ℕ) (w : State) → Sofar c w → c ≤ 100000
+  fits c w l = let k = few-by c w l in omega arith
+
+  module _ (c : ℕ) (w : State) (l : Sofar c w) (r : Walked) (e : told_next r ≡ report_of (call w)) where
+    gave : told_step r.answer ≡ (call w).answer
+    unfolding report_of
+    gave = ap (λ x. x.answer) e
+
+    left : r.left ≡ (call w).left
+    unfolding report_of
+    left = ap (λ x. x.left) e
+
+    count : r.reads ≡ (report_of (call w)).reads
+    count = ap (λ x. x.reads) e
+
+    pub few : c + r.reads ≤ 100000
+    few = let k = few-by c w l in omega (arith, count)
+
+    pub next : (i : Item) → told_step r.answer ≡ gives i → (t : Filled) (xs ys : List Part) → length xs ≡ 157
+        → filled ys t ≡ told_parts xs (parts_of s f.base.number (record_of f.table.bytes.now) (length xs) i.rest)
+        → Sofar (c + r.reads + t.reads) r.left
+    next i q t xs ys m d =
+        let g : (call w).answer ≡ gives i = sym gave ∙ q in
+        let n = told-reads xs ys t _ d in
+        let ps = (asked s f.base.number (record_of f.table.bytes.now) room l.items i).reads in
+        let o = ap (λ (k : ℕ). length (parts_of s f.base.number (record_of f.table.bytes.now) k i.rest).reads) m in
+        let p : c + (report_of (call w)).reads + length ps ≡ c + r.reads + t.reads = omega (arith, count) in
+        let all = l.read ++ (call w).reads ++ ps in
+        record {
+          items = suc l.items;
+          read = all;
+          listed = subst (Run (suc l.items) (c + r.reads + t.reads) all) (sym left)
+              (subst (λ (k : ℕ). Run (suc l.items) k all (call w).left) p (item l.items c l.read w i l.listed g));
+        }
+
+    pub stopped : ((i : Item) → told_step r.answer ≡ gives i → ⊥)
+        → Counts s f.base.number (record_of f.table.bytes.now) room (c + r.reads)
+    stopped h =
+        subst (λ (k : ℕ). Counts s f.base.number (record_of f.table.bytes.now) room (c + k)) (sym count)
+        (counts_so s f.base.number (record_of f.table.bytes.now) room l.items c l.read w l.listed
+        (λ i q. h i (gave ∙ q)))

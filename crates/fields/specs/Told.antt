@@ -1,0 +1,61 @@
+-- RULES 2, 19: the number of each cause, and what a call's result says as an answer.
+use Rattle.std.specs.Prelude.{ℕ, Option, Some, None, Result, Ok, Err}
+use Rattle.std.specs.Borrow.{Bor}
+use Rattle.fields.specs.Answer.{Answer, gives, ends, refuses, Refused, refusal, Report, report}
+use Rattle.fields.specs.declared.Refusal.{Refusal}
+use Rattle.fields.specs.declared.Counted.{Counted}
+use Rattle.fields.specs.declared.Cause.{Cause}
+use Rattle.fields.specs.declared.Cause.TheVariants.{RecordLength, NotFile, AttributeCut, AttributeShort}
+use Rattle.fields.specs.declared.Cause.TheVariants.{AttributeLong, UnknownType, HeaderCut, NameOffset}
+use Rattle.fields.specs.declared.Cause.TheVariants.{NameEnd, ValueOffset, ValueEnd, RunsOffset}
+use Rattle.fields.specs.declared.Cause.TheVariants.{ListNotResident, EntryCut, EntryShort, EntryNameCut}
+use Rattle.fields.specs.declared.Cause.TheVariants.{NoRecord, NoAttribute, PartResident, NoRoom}
+use Rattle.fields.specs.declared.Cause.TheVariants.{BadTable, BadState}
+
+abbrev pub number_of : Cause → ℕ
+number_of RecordLength = 1
+number_of NotFile = 2
+number_of AttributeCut = 3
+number_of AttributeShort = 4
+number_of AttributeLong = 5
+number_of UnknownType = 6
+number_of HeaderCut = 7
+number_of NameOffset = 8
+number_of NameEnd = 9
+number_of ValueOffset = 10
+number_of ValueEnd = 11
+number_of RunsOffset = 12
+number_of ListNotResident = 13
+number_of EntryCut = 14
+number_of EntryShort = 15
+number_of EntryNameCut = 16
+number_of NoRecord = 17
+number_of NoAttribute = 18
+number_of PartResident = 19
+number_of NoRoom = 20
+number_of BadTable = 21
+number_of BadState = 22
+
+-- a refusal as its number, record and place
+abbrev pub said : Refusal → Refused
+said r = refusal (number_of r.cause) r.file r.place
+
+-- what a call says that gives a value or refuses
+abbrev pub told : {A : Type 0} → Result A Refusal → Answer A
+told (Ok x) = gives x
+told (Err r) = refuses (said r)
+
+-- what a call says that may end too
+abbrev pub told_step : {A : Type 0} → Result (Option A) Refusal → Answer A
+told_step (Ok (Some x)) = gives x
+told_step (Ok None) = ends
+told_step (Err r) = refuses (said r)
+
+-- what a call says that reports its count
+abbrev pub told_report : {A : Type 0} → Counted A → Report A
+told_report c = report (told c.answer) c.reads
+
+-- the bytes that a call hands out a part of, or none
+abbrev pub seen : {A : Type 0} → Option (Bor A) → Option A
+seen (Some x) = Some x.now
+seen None = None

@@ -1,0 +1,93 @@
+-- RULES 20: both sides of each line, as one table: a question of these definitions, the bytes that it is asked of, and what is to be answered.
+use Rattle.std.specs.Prelude.{ℕ, ◌-◌, ◌≡◌, List, [], ◌∷◌, ◌++◌, map, length, drop, replicate}
+use Rattle.fields.specs.Answer.{Answer, gives, ends, refuses, refusal, ◌⟫◌}
+use Rattle.fields.specs.declared.RecordNumber.{RecordNumber}
+use Rattle.list.specs.Entry.{entry_of}
+use Rattle.record.specs.Open.{FILE}
+use Rattle.record.specs.Walk.{step_at}
+use Rattle.record.specs.Name.{name_of}
+use Rattle.record.specs.Value.{value_of}
+use Rattle.record.specs.Told.{opened_of}
+
+-- a raw step, a name or a value of a record that is opened first; or an entry
+pub data Ask : Type 0 where
+  step : Ask
+  name : Ask
+  value : Ask
+  entry : Ask
+
+-- a row: the question, the record's length, the place, the bytes that stand there, and the answer
+pub record Row : Type 0 where
+  pub asks : Ask
+  pub long : ℕ
+  pub place : ℕ
+  pub bytes : List ℕ
+  pub says : Answer Unit
+
+abbrev pub row : Ask → ℕ → ℕ → List ℕ → Answer Unit → Row
+row q m p b a = record { asks = q; long = m; place = p; bytes = b; says = a }
+
+-- every case is asked of record 40
+abbrev pub number : RecordNumber
+number = record { 0 = 40 }
+
+-- a record of m bytes that begins with FILE and has these bytes at a place, and else zeros
+abbrev pub record_with : ℕ → ℕ → List ℕ → List ℕ
+record_with m p b = FILE ++ (replicate (p - 4) 0 ++ (b ++ replicate (m - p - length b) 0))
+
+-- accepted, the end, or the refusal, whatever the value
+abbrev pub verdict : {A : Type 0} → Answer A → Answer Unit
+verdict (gives x) = gives tt
+verdict ends = ends
+verdict (refuses r) = refuses r
+
+abbrev pub answer_to : Ask → List ℕ → ℕ → Answer Unit
+answer_to step s p = verdict (opened_of s number ⟫ λ _. step_at s number p)
+answer_to name s p = verdict (opened_of s number ⟫ λ _. name_of s number p)
+answer_to value s p = verdict (opened_of s number ⟫ λ _. value_of s number p)
+answer_to entry s p = verdict (entry_of (drop p s) number p)
+
+-- a refusal by number, in record 40, at a place
+abbrev pub refused : ℕ → ℕ → Answer Unit
+refused n p = refuses (refusal n number p)
+
+-- a resident attribute's first bytes: type 16, a length, then name units, name offset, value length and value offset
+abbrev pub attribute : ℕ → ℕ → ℕ → List ℕ → ℕ → List ℕ
+attribute size units at many from =
+    16 ∷ 0 ∷ 0 ∷ 0 ∷ size ∷ 0 ∷ 0 ∷ 0 ∷ 0 ∷ units ∷ at ∷ 0 ∷ 0 ∷ 0 ∷ 0 ∷ 0 ∷ (many ++ (from ∷ 0 ∷ []))
+
+-- a list entry's first bytes: type 16, a length, then name units and name offset 26
+abbrev pub entry_bytes : ℕ → ℕ → List ℕ
+entry_bytes size units = 16 ∷ 0 ∷ 0 ∷ 0 ∷ size ∷ 0 ∷ units ∷ 26 ∷ []
+
+abbrev pub none : List ℕ
+none = 0 ∷ 0 ∷ 0 ∷ 0 ∷ []
+
+abbrev pub most : List ℕ
+most = 255 ∷ 255 ∷ 255 ∷ 255 ∷ []
+
+abbrev pub rows : List Row
+rows =
+    -- length 16 accepted, 15 gives 4; 16 bytes left with length 17 gives 5
+    row step 96 56 (attribute 16 0 0 none 0) (gives tt)
+    ∷ row step 96 56 (attribute 15 0 0 none 0) (refused 4 56)
+    ∷ row step 72 56 (16 ∷ 0 ∷ 0 ∷ 0 ∷ 17 ∷ []) (refused 5 56)
+    -- 4 bytes left holding type 16 gives 3; 3 bytes left: the end
+    ∷ row step 64 60 (16 ∷ []) (refused 3 60)
+    ∷ row step 64 61 (16 ∷ []) ends
+    -- name offset 32, one unit, in length 32 gives 8; value offset 32, length 0, in 32 accepted
+    ∷ row name 96 56 (attribute 32 1 32 none 0) (refused 8 56)
+    ∷ row value 96 56 (attribute 32 0 0 none 32) (gives tt)
+    -- value offset 24, length 4,294,967,295 gives 11
+    ∷ row value 96 56 (attribute 32 0 0 most 24) (refused 11 56)
+    -- entry length 28 with one name unit accepted, 27 gives 15; entry length 40, no name, with 32 left: the end
+    ∷ row entry 96 64 (entry_bytes 28 1) (gives tt)
+    ∷ row entry 96 64 (entry_bytes 27 1) (refused 15 64)
+    ∷ row entry 96 64 (entry_bytes 40 0) ends
+    -- 26 left, length 28, one unit gives 16
+    ∷ row entry 96 70 (entry_bytes 28 1) (refused 16 70)
+    ∷ []
+
+-- each question is answered so
+abbrev pub BothSides : Type 0
+BothSides = map (λ r. answer_to r.asks (record_with r.long r.place r.bytes) r.place) rows ≡ map (λ r. r.says) rows

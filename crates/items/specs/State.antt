@@ -1,0 +1,54 @@
+-- RULES 13: where a walk stands, what it passes over, and check 22.
+use Rattle.std.specs.Prelude.{ℕ, suc, ◌+◌, ◌-◌, ◌*◌, ◌≤◌, ◌&&◌, List, Bool, true, false, take, drop, eqb, ltb, length, Option, Some, None}
+use Rattle.fields.specs.Pick.{pick}
+use Rattle.fields.specs.Answer.{Answer, gives, refuses, refusal}
+use Rattle.fields.specs.declared.RecordNumber.{RecordNumber}
+use Rattle.record.specs.Header.{first_attribute}
+use Rattle.list.specs.declared.Entry.{Entry}
+use Rattle.items.specs.declared.walk.Rest.{Rest}
+use Rattle.items.specs.declared.walk.Key.{Key}
+use Rattle.items.specs.declared.walk.State.{State}
+
+abbrev pub list_at : ℕ → ℕ → Rest
+list_at from to = record { from = from; to = to }
+
+abbrev pub state : ℕ → Option Rest → Option Key → State
+state raw list key = record { raw = raw; list = list; key = key }
+
+-- a fresh walk is at the first attribute, with no list and no key
+unfoldable pub fresh_of : List ℕ → State
+fresh_of s = state (first_attribute s) None None
+
+-- the rest of a list, a part of the base record
+abbrev pub rest_of : List ℕ → Rest → List ℕ
+rest_of s l = take (l.to - l.from) (drop l.from s)
+
+-- a list that lies inside a record of m bytes
+pub record Lies (m : ℕ) (l : Rest) : Type 0 where
+  pub order : l.from ≤ l.to
+  pub most : l.to ≤ m
+
+-- 22 is for a list that ends before it begins, or behind the record. Without a list there is nothing to test
+unfoldable pub lies_in : ℕ → Option Rest → Bool
+lies_in m None = true
+lies_in m (Some l) = pick (ltb l.to l.from) false (pick (ltb m l.to) false true)
+
+unfoldable pub inside_of : List ℕ → RecordNumber → Option Rest → Answer Unit
+inside_of s n o = pick (lies_in (length s) o) (gives tt) (refuses (refusal 22 n 0))
+
+-- whether an entry has the skip key's type and instance
+unfoldable pub agrees : Option Key → Entry → Bool
+agrees (Some k) e = eqb e.ty k.ty && eqb e.instance k.instance
+agrees None e = false
+
+-- the key that an entry leaves
+abbrev pub key_of : Entry → Key
+key_of e = record { ty = e.ty; instance = e.instance }
+
+-- what is left to read of a record of m bytes: a number that an item lowers
+abbrev pub left_in : Option Rest → ℕ
+left_in None = 0
+left_in (Some l) = suc (l.to - l.from)
+
+abbrev pub weight : ℕ → State → ℕ
+weight m w = 2 * (m - w.raw) + left_in w.list

@@ -1,0 +1,38 @@
+//! What holds of a file's calls whatever the bytes, each law the contract of a function that does nothing.
+ghost use Rattle.fields.specs.Laws.{Settles};
+ghost use Rattle.record.specs.Laws.{SettlesShown};
+ghost use Rattle.items.specs.Told.{told_file};
+ghost use Rattle.items.specs.Walked.{told_next};
+ghost use Rattle.items.specs.Laws.{shown_file, SoughtSettle, CallsGiveItems, CallsGoOn, EndsStay, ItemsLower, CallsEnd, EntriesEnd};
+ghost use Rattle.items.specs.Lines.{BothSides};
+
+/// A call whose contract states its answer shows one result at most (RULES 2, 17); of other results `fields` and `record` have
+/// the law.
+pub fn results_settle()
+    ensures files { SettlesShown told_file shown_file }
+    ensures searches { SoughtSettle }
+    ensures walks { Settles told_next }
+{}
+
+/// The cases on both sides of each line (RULES 20).
+pub fn both_sides_of_each_line()
+    ensures { BothSides }
+{}
+
+/// Calls of `next` one after another give the items of the walk (RULES 14).
+pub fn calls_give_the_items()
+    ensures { CallsGiveItems }
+{}
+
+/// What a call passed over stays passed over, also where it refused; and the end stays the end (RULES 13, 14).
+pub fn calls_go_on()
+    ensures further { CallsGoOn }
+    ensures ended { EndsStay }
+{}
+
+/// A walk ends, and so do the entries of a list (RULES 9, 14).
+pub fn walks_end()
+    ensures lower { ItemsLower }
+    ensures calls { CallsEnd }
+    ensures entries { EntriesEnd }
+{}

@@ -1,2 +1,0 @@
--- Parts written to a lent list: what is reported and what then stands in the list.
-pub mod Lent

@@ -1,9 +1,0 @@
-use Rattle.std.proofs.Common.{arith, refl}
-use Rattle.text.specs.Words.{bytes_from, word}
-use Rattle.text.proofs.Puts.{both, said}
-use Rattle.line.specs.Lines.{refused_line}
-use Rattle.line.proofs.inner.refused_line.Goals as goal
-
-pub returns : goal.returns
-unfolding refused_line word bytes_from
-returns c = said (both c.put_one-end.ensures c.put_byte.ensures) refl (omega arith)

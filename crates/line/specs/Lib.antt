@@ -1,2 +1,0 @@
--- The definition's chapter on the listing's lines.
-pub mod Lines

@@ -1,0 +1,182 @@
+//! The line of an item (RULES 18.3, 18.4).
+ghost use Rattle.std.specs.Prelude.{◌≡◌, Some, length};
+ghost use Rattle.record.specs.Told.{told_record};
+ghost use Rattle.record.specs.View.{span};
+ghost use Rattle.parts.specs.OfFile.{parts_of_file};
+ghost use Rattle.lines.specs.Told.{told_name, told_contents, told_line};
+ghost use Rattle.lines.specs.Listing.{name_in, value_in, first_size, parts_contents};
+ghost use Rattle.lines.specs.InFile.{line_in, contents_in, Reads};
+
+use crate::{AttributeLine, Contents, Line, Name};
+use fields::Refusal;
+use items::{File, Item, Rest};
+use parts::Part;
+use record::{Record, Span, Value, View};
+
+/// The line of an item, how many parts it has, and what was read for them.
+// The parts are told by their count: no heap, so that the caller lends the room.
+#[derive(Clone, Copy)]
+pub struct Told {
+    pub line: Line,
+    pub count: usize,
+    pub reads: u64,
+}
+
+// The same of what stands for the value.
+#[derive(Clone, Copy)]
+struct Read {
+    contents: Contents,
+    count: usize,
+    reads: u64,
+}
+
+// An item's name and value, as its record tells them.
+#[derive(Clone, Copy)]
+struct Places {
+    name: Name,
+    value: Contents,
+}
+
+// No `From`: both types are record's.
+fn span_of(view: View) -> Span
+    ensures { result ≡ span view.entry.from (length view.entry.bytes.now) }
+{
+    Span {
+        from: view.from,
+        bytes: view.bytes.len(),
+    }
+}
+
+impl Name {
+    ghost use Rattle.std.specs.Prelude.{◌≡◌};
+    ghost use Rattle.record.specs.Told.{told_view};
+    ghost use Rattle.lines.specs.Told.{told_name};
+    ghost use Rattle.lines.specs.Listing.{named};
+
+    fn of(name: Result<View, Refusal>) -> Name
+        ensures { told_name result ≡ named (told_view name.entry) }
+    {
+        match name {
+            Ok(view) => Name::At(span_of(view)),
+            Err(r) => Name::Refused(r.cause),
+        }
+    }
+}
+
+impl Contents {
+    ghost use Rattle.std.specs.Prelude.{◌≡◌};
+    ghost use Rattle.fields.specs.Told.{told};
+    ghost use Rattle.record.specs.Told.{told_value};
+    ghost use Rattle.lines.specs.Told.{told_contents};
+    ghost use Rattle.lines.specs.Listing.{valued, parted};
+
+    fn of(value: Result<Value, Refusal>) -> Contents
+        ensures { told_contents result ≡ valued (told_value value.entry) }
+    {
+        match value {
+            Ok(Value::Resident(view)) => Contents::Resident(span_of(view)),
+            Ok(Value::Runs(view, size)) => Contents::Runs {
+                runs: span_of(view),
+                size,
+            },
+            Err(r) => Contents::Refused(r.cause),
+        }
+    }
+
+    // Of parts, the first one's data size in bytes.
+    fn of_parts(answer: Result<(), Refusal>, count: usize, size: u64) -> Contents
+        ensures { told_contents result ≡ parted (told answer) count size }
+    {
+        match answer {
+            Ok(()) => Contents::Parts { count, size },
+            Err(r) => Contents::PartsRefused {
+                count,
+                cause: r.cause,
+            },
+        }
+    }
+}
+
+fn places_in(looked: &Result<Record, Refusal>, at: usize) -> Places
+    ensures name { told_name result.name ≡ name_in (told_record looked.now) at }
+    ensures value { told_contents result.value ≡ value_in (told_record looked.now) at }
+{
+    match looked {
+        Ok(within) => Places {
+            name: Name::of(within.name(at)),
+            value: Contents::of(within.value(at)),
+        },
+        Err(r) => Places {
+            name: Name::Refused(r.cause),
+            value: Contents::Refused(r.cause),
+        },
+    }
+}
+
+fn first_size(parts: &[Part]) -> u64
+    ensures { result ≡ first_size parts.now }
+{
+    match parts.first() {
+        Some(part) => part.size,
+        None => 0,
+    }
+}
+
+fn read_parts(file: &File, rest: Rest, parts: &mut [Part]) -> Read
+    ensures contents { told_contents result.contents ≡
+        parts_contents (parts_of_file file.now (length parts.old) (Some rest)) }
+    ensures reads { Reads (parts_of_file file.now (length parts.old) (Some rest)) parts.old parts.new
+        result.count result.reads }
+{
+    let filled = parts::fill(file, Some(rest), parts);
+    let size = first_size(&parts[..filled.count]);
+    Read {
+        contents: Contents::of_parts(filled.answer, filled.count, size),
+        count: filled.count,
+        reads: filled.reads,
+    }
+}
+
+#[tactic(auto, unfolding(parts::specs::Parts::parts_of, parts::specs::Parts::parts_in, items::specs::State::lies_in))]
+fn read_contents(file: &File, value: Contents, rest: Option<Rest>, parts: &mut [Part]) -> Read
+    ensures contents { told_contents result.contents ≡
+        contents_in (length parts.old) file.now rest (told_contents value) }
+    ensures reads { Reads (parts_of_file file.now (length parts.old) rest) parts.old parts.new
+        result.count result.reads }
+{
+    match rest {
+        Some(rest) => read_parts(file, rest, parts),
+        None => Read {
+            contents: value,
+            count: 0,
+            reads: 0,
+        },
+    }
+}
+
+/// The line of an item; its parts are written to the front of the lent list.
+#[tactic(auto, unfolding(crate::specs::Listing::item_line))]
+pub fn item_line(file: &File, item: &Item, parts: &mut [Part]) -> Told
+    ensures line { told_line result.line ≡ line_in (length parts.old) file.now item.now }
+    ensures reads { Reads (parts_of_file file.now (length parts.old) item.now.rest) parts.old parts.new
+        result.count result.reads }
+{
+    let attribute = item.attribute;
+    let looked = file.lookup(item.file, 0);
+    let places = places_in(&looked, attribute.offset);
+    let read = read_contents(file, places.value, item.rest, parts);
+    let line = Line::Attribute(AttributeLine {
+        file: item.file,
+        offset: attribute.offset,
+        ty: attribute.ty,
+        length: attribute.length,
+        instance: attribute.instance,
+        name: places.name,
+        contents: read.contents,
+    });
+    Told {
+        line,
+        count: read.count,
+        reads: read.reads,
+    }
+}

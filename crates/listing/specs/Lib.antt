@@ -1,0 +1,2 @@
+-- How the program's run ends.
+pub mod Ran

@@ -1,2 +1,0 @@
--- What a search finds lies inside the record that it searched.
-pub mod Finds

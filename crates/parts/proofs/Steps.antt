@@ -1,0 +1,185 @@
+-- What one step of the parts gives, from any place: it is the parts from where they go on, or how they end.
+use Rattle.std.proofs.Common.{
+  ℕ,
+  ◌+◌,
+  ◌-◌,
+  ◌<◌,
+  ◌≤◌,
+  ◌≡◌,
+  List,
+  [],
+  ◌∷◌,
+  ◌++◌,
+  map,
+  length,
+  true,
+  false,
+  set,
+  refl,
+  sym,
+  ap,
+  ◌∙◌,
+  arith,
+  length-append,
+}
+use Rattle.std.proofs.lemmas.List.{length-map}
+use borrow.Author.Tests.{lt-ltb, le-ltb, eq-eqb, ne_eqb}
+use Rattle.std.specs.Prelude.{Option, Some}
+use Rattle.fields.specs.Answer.{Answer, gives, ends, refuses, Refused, refusal, Report, report}
+use Rattle.fields.specs.Known.{known_type}
+use Rattle.fields.specs.declared.RecordNumber.{RecordNumber}
+use Rattle.list.specs.Entry.{entry_of}
+use Rattle.list.specs.declared.Entry.{Entry}
+use Rattle.items.specs.Read.{Read, joined, sought as seen}
+use Rattle.items.specs.State.{rest_of, key_of}
+use Rattle.items.specs.Items.{entries_of, sought_of}
+use Rattle.items.specs.declared.walk.Rest.{Rest}
+use Rattle.items.specs.declared.walk.Key.{Key}
+use Rattle.items.proofs.Steps.{first_entry, no_entry, bad_entry}
+use Rattle.parts.specs.declared.Part.{Part}
+use Rattle.parts.specs.Part.{part_of}
+use Rattle.parts.specs.Parts.{Parts, stops, reading, giving, parts_by, parts_from, parts_in}
+use Rattle.parts.specs.Filled.{put, Told, tells, told_parts}
+
+-- what is told of a lent list xs where k parts and r reads came before
+unfoldable pub after : ℕ → ℕ → List Part → Parts → Told
+after r k xs p = tells (put xs k p.given) (k + length p.given) p.answer (r + length p.reads)
+
+stop : (r k : ℕ) (xs : List Part) (rs : List Read) (a : Answer Unit)
+    → after r k xs (reading rs (stops a)) ≡ tells xs k a (r + length rs)
+unfolding after put
+stop r k xs rs a = ap (λ (y : ℕ). tells xs y a (r + length (rs ++ []))) (omega arith)
+    ∙ ap (λ (y : ℕ). tells xs k a y) (omega (arith, length-append rs []))
+
+stop-here : (r k : ℕ) (xs : List Part) (a : Answer Unit) → after r k xs (stops a) ≡ tells xs k a r
+unfolding after put
+stop-here r k xs a = ap (λ (y : ℕ). tells xs y a (r + 0)) (omega arith) ∙ ap (λ (y : ℕ). tells xs k a y) (omega arith)
+
+pub starts : (xs : List Part) (p : Parts) → told_parts xs p ≡ after 0 0 xs p
+unfolding after told_parts
+starts xs p = ap (λ (y : ℕ). tells (put xs 0 p.given) y p.answer (length p.reads)) (omega arith)
+    ∙ ap (λ (y : ℕ). tells (put xs 0 p.given) (0 + length p.given) p.answer y) (omega arith)
+
+module _ (s : List ℕ) (n : RecordNumber) (look : RecordNumber → Option (List ℕ)) {x : Told} (key : Key) (room : ℕ)
+    (l : Rest) (r k : ℕ) (xs : List Part)
+    (i : x ≡ after r k xs (parts_by s n look key room (entries_of s n l.to l.from) l.from)) where
+  pub parts_ended : ends ≡ entry_of (rest_of s l) n l.from → tells xs k (gives tt) r ≡ x
+  unfolding parts_by
+  parts_ended g = sym (i ∙ rw (no_entry s n l g) (stop-here r k xs (gives tt)))
+
+  pub parts_refused : (q : Refused) → refuses q ≡ entry_of (rest_of s l) n l.from → tells xs k (refuses q) r ≡ x
+  unfolding parts_by
+  parts_refused q g = sym (i ∙ rw (bad_entry s n l q g) (stop-here r k xs (refuses q)))
+
+  module _ (e : Entry) (g : gives e ≡ entry_of (rest_of s l) n l.from) where
+    pub parts_other : (e.instance ≡ key.instance → ⊥) → tells xs k (gives tt) (r + 1) ≡ x
+    unfolding parts_by
+    parts_other u = sym (i ∙ rw (first_entry s n l e g, ne_eqb _ _ u) (stop r k xs (joined l.from e ∷ []) (gives tt)))
+
+    module _ (u : e.instance ≡ key.instance) where
+      pub parts_unknown : known_type e.ty ≡ false → tells xs k (refuses (refusal 6 n l.from)) (r + 1) ≡ x
+      unfolding parts_by
+      parts_unknown v = sym (i ∙ rw (first_entry s n l e g, eq-eqb _ _ u, v)
+          (stop r k xs (joined l.from e ∷ []) (refuses (refusal 6 n l.from))))
+
+      module _ (v : known_type e.ty ≡ true) where
+        pub parts_typed : (e.ty ≡ key.ty → ⊥) → tells xs k (gives tt) (r + 1) ≡ x
+        unfolding parts_by
+        parts_typed w = sym (i ∙ rw (first_entry s n l e g, eq-eqb _ _ u, v, ne_eqb _ _ w)
+            (stop r k xs (joined l.from e ∷ []) (gives tt)))
+
+        module _ (w : e.ty ≡ key.ty) where
+          pub parts_full : room ≤ 0 → tells xs k (refuses (refusal 20 n l.from)) (r + 1) ≡ x
+          unfolding parts_by
+          parts_full z = sym (i ∙ rw (first_entry s n l e g, eq-eqb _ _ u, v, eq-eqb _ _ w, le-ltb 0 room z)
+              (stop r k xs (joined l.from e ∷ []) (refuses (refusal 20 n l.from))))
+
+          module _ (z : 0 < room) (c : Report Part) (d : c ≡ report (part_of s n look e l.from)
+              (length (sought_of s n look e l.from).read)) where
+            goes : parts_by s n look key room (entries_of s n l.to l.from) l.from
+                ≡ reading (joined l.from e ∷ []) (reading (map (seen e.file) (sought_of s n look e l.from).read)
+                (giving l.from (part_of s n look e l.from)
+                (parts_by s n look key (room - 1) (entries_of s n l.to (l.from + e.length)) (l.from + e.length))))
+            unfolding parts_by
+            goes = rw (first_entry s n l e g, eq-eqb _ _ u, v, eq-eqb _ _ w, lt-ltb 0 room z)
+
+            -- what was read for the part
+            read_more : (rs : List Read) (p : Parts) → length rs ≡ c.reads
+                → after r k xs (reading (joined l.from e ∷ []) (reading rs p)) ≡ after (r + 1 + c.reads) k xs p
+            unfolding after
+            read_more rs p q = ap (λ (y : ℕ). tells (put xs k p.given) (k + length p.given) p.answer y)
+                (omega (arith, length-append rs p.reads))
+
+            came : (p : Parts) → after r k xs (reading (joined l.from e ∷ [])
+                (reading (map (seen e.file) (sought_of s n look e l.from).read) p)) ≡ after (r + 1 + c.reads) k xs p
+            came p = read_more (map (seen e.file) (sought_of s n look e l.from).read) p
+                (length-map (sought_of s n look e l.from).read (seen e.file)
+                ∙ sym (ap (λ (y : Report Part). y.reads) d))
+
+            at_part : (a : Answer Part) → a ≡ c.answer → x ≡ after (r + 1 + c.reads) k xs
+                (giving l.from a (parts_by s n look key (room - 1) (entries_of s n l.to (l.from + e.length))
+                (l.from + e.length)))
+            at_part a q =
+                i ∙ ap (after r k xs) goes ∙ came (giving l.from (part_of s n look e l.from)
+                (parts_by s n look key (room - 1) (entries_of s n l.to (l.from + e.length)) (l.from + e.length)))
+                ∙ ap (λ (y : Answer Part). after (r + 1 + c.reads) k xs
+                (giving l.from y (parts_by s n look key (room - 1) (entries_of s n l.to (l.from + e.length))
+                (l.from + e.length)))) (sym (q ∙ ap (λ (y : Report Part). y.answer) d))
+
+            pub parts_missed : (q : Refused) → refuses q ≡ c.answer → tells xs k (refuses q) (r + 1 + c.reads) ≡ x
+            unfolding giving
+            parts_missed q h = sym (at_part (refuses q) h ∙ stop-here (r + 1 + c.reads) k xs (refuses q))
+
+            push : (p : Part) (b : Parts) → after (r + 1 + c.reads) k xs (giving l.from (gives p) b) ≡ after
+                (r + 1 + c.reads) (k + 1) (set xs k p) b
+            unfolding after put giving
+            push p b = ap (λ (y : ℕ). tells (put (set xs k p) (k + 1) b.given) y b.answer
+                (r + 1 + c.reads + length b.reads)) (omega arith)
+
+            pub parts_more : (p : Part) → gives p ≡ c.answer → (left : ℕ) → room - 1 ≡ left
+                → x ≡ after (r + 1 + c.reads) (k + 1) (set xs k p)
+                (parts_by s n look key left (entries_of s n l.to (l.from + e.length)) (l.from + e.length))
+            parts_more p h left q =
+                at_part (gives p) h ∙ push p (parts_by s n look key (room - 1)
+                (entries_of s n l.to (l.from + e.length)) (l.from + e.length))
+                ∙ ap (λ (y : ℕ). after (r + 1 + c.reads) (k + 1) (set xs k p)
+                (parts_by s n look key y (entries_of s n l.to (l.from + e.length)) (l.from + e.length))) q
+
+-- the parts by a list, by what stands at its front
+module _ (s : List ℕ) (n : RecordNumber) (look : RecordNumber → Option (List ℕ)) (room : ℕ) (xs : List Part)
+    (l : Rest) where
+  abbrev taken : Told
+  taken = told_parts xs (parts_in s n look room (Some l))
+
+  pub nothing : (a : Answer Unit) → tells xs 0 a 0 ≡ told_parts xs (stops a)
+  unfolding told_parts put
+  nothing a = refl
+
+  pub front_ended : ends ≡ entry_of (rest_of s l) n l.from → tells xs 0 (gives tt) 0 ≡ taken
+  unfolding parts_in parts_from
+  front_ended g = nothing (gives tt) ∙ sym (rw (no_entry s n l g) refl)
+
+  pub front_refused : (q : Refused) → refuses q ≡ entry_of (rest_of s l) n l.from → tells xs 0 (refuses q) 0 ≡ taken
+  unfolding parts_in parts_from
+  front_refused q g = nothing (refuses q) ∙ sym (rw (bad_entry s n l q g) refl)
+
+  pub front_given : (e : Entry) → gives e ≡ entry_of (rest_of s l) n l.from → (x : Told)
+      → x ≡ told_parts xs (parts_by s n look (key_of e) room (entries_of s n l.to l.from) l.from) → x ≡ taken
+  unfolding parts_in parts_from
+  front_given e g x i =
+      let m : told_parts xs (parts_by s n look (key_of e) room (entries_of s n l.to l.from) l.from) ≡ taken = rw
+      (first_entry s n l e g) refl in
+      i ∙ m
+
+pub ruleset steps = (
+  starts,
+  parts_ended,
+  parts_refused,
+  parts_other,
+  parts_unknown,
+  parts_typed,
+  parts_full,
+  parts_missed,
+)
+
+pub ruleset fronts = (front_ended, front_refused, front_given)

@@ -1,0 +1,22 @@
+//! What holds of parts whatever the bytes, each law the contract of a function that does nothing.
+ghost use Rattle.fields.specs.Laws.{Settles};
+ghost use Rattle.parts.specs.Filled.{collected};
+ghost use Rattle.parts.specs.Laws.{FilledSettle, PartsInFront, PartsFit, RoomSuffices};
+
+/// A call whose contract states what it reports leaves one list and has one result at most (RULES 2, 17).
+pub fn results_settle()
+    ensures lent { FilledSettle }
+    ensures by_value { Settles collected }
+{}
+
+/// Parts stand in front of the lent list, no more of them than it has room for; what stands behind them is unchanged
+/// (RULES 15).
+pub fn parts_stand_in_front()
+    ensures front { PartsInFront }
+    ensures fit { PartsFit }
+{}
+
+/// With room for `MOST_PARTS` parts, 20 never comes for want of more (RULES 15).
+pub fn room_suffices()
+    ensures { RoomSuffices }
+{}

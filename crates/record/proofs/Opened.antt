@@ -1,0 +1,17 @@
+-- A record of a good length that begins with FILE passes the opening checks, and has 64 to 4,096 bytes.
+use Rattle.std.proofs.Common.{ℕ, ◌≤◌, ◌≡◌, List, length, arith}
+use Rattle.std.proofs.lemmas.Bool.Decides.{nat_tests}
+use Rattle.fields.specs.Answer.{gives}
+use Rattle.fields.specs.Length.{good_length}
+use Rattle.fields.specs.declared.RecordNumber.{RecordNumber}
+use Rattle.record.specs.Open.{open_of}
+
+pub least : (s : List ℕ) (n : RecordNumber) → gives tt ≡ open_of s n → 64 ≤ length s
+unfolding open_of good_length
+least s n e = grind (arith, nat_tests)
+
+pub most : (s : List ℕ) (n : RecordNumber) → gives tt ≡ open_of s n → length s ≤ 4096
+unfolding open_of good_length
+most s n e = grind (arith, nat_tests)
+
+pub ruleset opened = (least, most)

@@ -1,0 +1,69 @@
+-- A search over the raw walk reads no more attributes than fit into what is left, and what it finds lies inside the
+-- record.
+use Rattle.std.proofs.Common.{ℕ, zero, suc, ◌+◌, ◌-◌, ◌*◌, ◌≤◌, ◌≡◌, List, ◌∷◌, length, eqb, refl}
+use Rattle.std.proofs.Common.{subst, arith}
+use Rattle.std.specs.Prelude.{◌&&◌}
+use Rattle.fields.specs.Answer.{Answer, gives, ends, refuses, Refused}
+use Rattle.fields.specs.Known.{known_type}
+use Rattle.fields.specs.Trail.{behind, run, trail}
+use Rattle.fields.specs.declared.RecordNumber.{RecordNumber}
+use Rattle.fields.proofs.Cases.{both}
+use Rattle.record.specs.Attribute.{Inside}
+use Rattle.record.specs.Header.{first_attribute}
+use Rattle.record.specs.Walk.{step_at, walk_from, attributes_of}
+use Rattle.record.specs.Search.{Searched, find_in}
+use Rattle.record.specs.declared.layout.Attribute.{Attribute}
+use Rattle.record.proofs.Given.{of-step, inside}
+
+module _ (s : List ℕ) (n k : RecordNumber) (ty instance : ℕ) (miss : Refused) where
+  abbrev found : List (Answer Attribute) → Searched
+  found xs = find_in k ty instance miss xs
+
+  abbrev walked : ℕ → ℕ → List (Answer Attribute)
+  walked f at = run (step_at s n) (λ h. h.length) f at
+
+  few-behind : (f at : ℕ) → ((b : ℕ) → 16 * length (found (walked f b)).read ≤ length s - b)
+      → (a : Answer Attribute) → step_at s n at ≡ a
+      → 16 * length (found (behind (step_at s n) (λ h. h.length) (walked f) at a)).read ≤ length s - at
+  unfolding behind find_in
+  few-behind f at ih (gives h) e =
+      let w = of-step s n at h e in let l = w.least in let m = w.most in let q = ih (at + h.length) in
+      both (λ (x : Searched). 16 * length (h ∷ x.read) ≤ length s - at) (known_type h.ty) _ _
+      (both (λ (x : Searched). 16 * length (h ∷ x.read) ≤ length s - at) (eqb h.ty ty && eqb h.instance instance) _ _
+      (omega arith) (omega arith))
+      (omega arith)
+  few-behind f at ih ends e = omega arith
+  few-behind f at ih (refuses r) e = omega arith
+
+  few-run : (f at : ℕ) → 16 * length (found (walked f at)).read ≤ length s - at
+  unfolding run find_in
+  few-run zero at = omega arith
+  few-run (suc f) at = few-behind f at (few-run f) (step_at s n at) refl
+
+  inside-behind : (f at : ℕ) → ((b : ℕ) (h : Attribute) → gives h ≡ (found (walked f b)).answer → Inside s h)
+      → (a : Answer Attribute) → step_at s n at ≡ a
+      → (h : Attribute) → gives h ≡ (found (behind (step_at s n) (λ h. h.length) (walked f) at a)).answer → Inside s h
+  unfolding behind find_in
+  inside-behind f at ih (gives g) e h q =
+      both (λ (x : Searched). gives h ≡ x.answer → Inside s h) (known_type g.ty) _ _
+      (both (λ (x : Searched). gives h ≡ x.answer → Inside s h) (eqb g.ty ty && eqb g.instance instance) _ _
+      (λ p. let same : g ≡ h = cc in subst (Inside s) same (inside (of-step s n at g e)))
+      (ih (at + g.length) h))
+      (λ p. absurd (cc)) q
+  inside-behind f at ih ends e h q = absurd (cc)
+  inside-behind f at ih (refuses r) e h q = absurd (cc)
+
+  inside-run : (f at : ℕ) (h : Attribute) → gives h ≡ (found (walked f at)).answer → Inside s h
+  unfolding run find_in
+  inside-run zero at h q = absurd (cc)
+  inside-run (suc f) at h q = inside-behind f at (inside-run f) (step_at s n at) refl h q
+
+  pub few : 16 * length (found (attributes_of s n)).read ≤ length s
+  unfolding attributes_of walk_from trail
+  few = let q = few-run (suc (length s - first_attribute s)) (first_attribute s) in omega arith
+
+  pub found_inside : (h : Attribute) → gives h ≡ (found (attributes_of s n)).answer → Inside s h
+  unfolding attributes_of walk_from trail
+  found_inside h q = inside-run _ _ h q
+
+pub ruleset searches = (few, found_inside)

@@ -1,0 +1,14 @@
+-- The definition's chapter on one record: opening it, its attributes, their names and values, the search, and the
+-- reader.
+pub mod Open
+pub mod Header
+pub mod Attribute
+pub mod Walk
+pub mod View
+pub mod Name
+pub mod Value
+pub mod Search
+pub mod Reader
+pub mod Rest
+pub mod Told
+pub mod Laws

@@ -1,0 +1,68 @@
+-- RULES 10: what a table that passed its check is, and what its calls leave open; src/laws.rt has the functions
+-- whose contracts these are.
+use Rattle.std.specs.Prelude.{ℕ, true, ◌+◌, ◌*◌, ◌<◌, ◌≤◌, ◌≡◌, List, length, Option, Some, None, Result, Ok, Err}
+use Rattle.fields.specs.Answer.{Answer, gives}
+use Rattle.fields.specs.Length.{good_length}
+use Rattle.fields.specs.declared.RecordNumber.{RecordNumber}
+use Rattle.fields.specs.declared.Refusal.{Refusal}
+use Rattle.table.specs.Layout.{row_size, row_at}
+use Rattle.table.specs.Check.{number_end, table_of}
+use Rattle.table.specs.Held.{held_of, held_at, record_at, record_of, base_row, base_of, IsRow}
+use Rattle.table.specs.Told.{Lent, told_table}
+use Rattle.table.specs.declared.check.TableHeader.{TableHeader}
+use Rattle.table.specs.declared.Table.{Table}
+
+-- what holds of every table that passed, and its numbers
+abbrev pub OfTables : (List ℕ → TableHeader → Type 0) → Type 0
+OfTables P = (t : List ℕ) (h : TableHeader) → table_of t ≡ gives h → P t h
+
+-- numbers rise from row to row
+abbrev pub RowsRise : Type 0
+RowsRise = OfTables λ t h. (i j : ℕ) → i < j → j < h.count → (row_at t h i).number.0 < (row_at t h j).number.0
+
+-- rows stand one behind another in front of the records, and their numbers are below 2^48
+abbrev pub RowsStand : Type 0
+RowsStand = OfTables λ t h. (i : ℕ) → i < h.count
+    → ((row_at t h i).place ≡ h.directory + row_size * i) × ((row_at t h i).place + row_size ≤ h.records)
+    × ((row_at t h i).number.0 < number_end)
+
+-- a table's record size is one that a record may have
+abbrev pub SizesAreGood : Type 0
+SizesAreGood = OfTables λ t h. good_length h.size ≡ true
+
+-- a row's record lies behind the directory and inside the table, and has the record size
+abbrev pub RecordsLieInside : Type 0
+RecordsLieInside = OfTables λ t h. (i : ℕ) → i < h.count
+    → (h.directory + row_size * h.count ≤ (row_at t h i).offset) × ((row_at t h i).offset + h.size ≤ length t)
+    × (length (record_at t h i) ≡ h.size)
+
+-- a number that a row has finds that row's record
+abbrev pub RowsAreFound : Type 0
+RowsAreFound =
+    OfTables λ t h. (n : RecordNumber) (i : ℕ) → IsRow t h n (Some i) → record_of t n ≡ Some (record_at t h i)
+
+-- a number that no row has finds none
+abbrev pub OthersAreNot : Type 0
+OthersAreNot = OfTables λ t h. (n : RecordNumber) → IsRow t h n None → record_of t n ≡ None
+
+-- there are as many records as rows
+abbrev pub RowsAreHeld : Type 0
+RowsAreHeld = OfTables λ t h. length (held_of t) ≡ h.count
+
+-- the base record that a table comes with is a row's, told by its base row
+abbrev pub BaseIsARow : Type 0
+BaseIsARow = OfTables λ t h. (i : ℕ) → base_row h ≡ Some i → (i < h.count) × (base_of t ≡ Some (held_at t h i))
+
+-- two checks with one answer: the same bytes with the same numbers, or the same refusal
+abbrev pub SameTable : Result Table Refusal → Result Table Refusal → Type 0
+SameTable (Ok x) (Ok y) = (x.bytes.now ≡ y.bytes.now) × (x.header ≡ y.header)
+SameTable (Err x) (Err y) = x ≡ y
+SameTable (Ok x) (Err y) = ⊥
+SameTable (Err x) (Ok y) = ⊥
+
+abbrev pub ChecksSettle : Type 0
+ChecksSettle = (r s : Result Table Refusal) (a : Answer Lent) → told_table r ≡ a → told_table s ≡ a → SameTable r s
+
+-- any two ways to find a row find the same
+abbrev pub RowsSettle : Type 0
+RowsSettle = OfTables λ t h. (n : RecordNumber) (a b : Option ℕ) → IsRow t h n a → IsRow t h n b → a ≡ b

@@ -1,0 +1,25 @@
+//! What holds of tables, each law the contract of a function that does nothing.
+ghost use Rattle.table.specs.Laws.{RowsRise, RecordsLieInside, RowsAreFound, OthersAreNot, RowsAreHeld};
+ghost use Rattle.table.specs.Laws.{BaseIsARow, ChecksSettle, RowsSettle, RowsStand, SizesAreGood};
+
+/// What the check shows (RULES 10).
+pub fn tables_are_sound()
+    ensures size { SizesAreGood }
+    ensures stand { RowsStand }
+    ensures rise { RowsRise }
+    ensures inside { RecordsLieInside }
+{}
+
+/// What a table holds: its rows' records, each by its row's number, and nothing else.
+pub fn tables_hold_their_rows()
+    ensures found { RowsAreFound }
+    ensures missed { OthersAreNot }
+    ensures held { RowsAreHeld }
+    ensures base { BaseIsARow }
+{}
+
+/// The contracts leave no choice. A slice that is handed out is its bytes: where they stand is not told.
+pub fn results_settle()
+    ensures checks { ChecksSettle }
+    ensures rows { RowsSettle }
+{}

@@ -1,0 +1,95 @@
+"""What the crates cite is there: each "RULES n" or "RULES n.m" below crates/ names a section of docs/RULES.md.
+
+A section n is a heading "## n. ..", its rule n.m a paragraph that begins "**n.m". A definition cites nothing else: no
+file of a folder specs/ names "01" or another paper of those who made this. The links of README.md and docs/ lead to
+files and headings that are there.
+"""
+import glob
+import os
+import re
+import sys
+
+ROOT = os.path.dirname(os.path.dirname(os.path.abspath(__file__)))
+
+# "RULES 4", "RULES 4.2", and more of them behind commas, dashes and "and": "RULES 7 and 8", "RULES 10.3, 10.4", "RULES 3 to 5"
+CITED = re.compile(r"\bRULES((?:(?:,| and| to|-)? ?\d+(?:\.\d+)?)+)")
+PAPER = re.compile(r"(?<![\w.])01(?![\w.])|\bdocument 01\b|\bDESIGN\b|\bRECIPES\b|\bprobes?/")
+
+
+def sections(text):
+    """The sections of the rules, and the numbered paragraphs in them."""
+    return set(re.findall(r"^## (\d+)\. ", text, re.MULTILINE)) | set(re.findall(r"^\*\*(\d+\.\d+)[ .*]", text, re.MULTILINE))
+
+
+def faults(name, text, known):
+    """(line, what) for each fault of a file."""
+    found, spec = [], "/specs/" in "/" + name.replace(os.sep, "/")
+    for at, line in enumerate(text.split("\n"), 1):
+        for cited in CITED.findall(line):
+            found += [(at, "RULES has no %s" % number) for number in re.findall(r"\d+(?:\.\d+)?", cited) if number not in known]
+        if spec and PAPER.search(line):
+            found.append((at, "a paper other than docs/RULES.md is cited"))
+    return found
+
+
+def heading_anchors(text):
+    """What a link may say behind `#` to come to a heading of a page."""
+    return {re.sub(r"[^\w\- ]", "", line.lstrip("# ").lower()).replace(" ", "-") for line in text.split("\n") if line.startswith("#")}
+
+
+def link_faults(name, text):
+    """(line, what) for each link of a page that leads nowhere."""
+    found = []
+    for at, line in enumerate(text.split("\n"), 1):
+        for path, anchor in re.findall(r"\]\((?!https?:)([^)#]*)(?:#([^)]*))?\)", line):
+            target = os.path.normpath(os.path.join(ROOT, os.path.dirname(name), path)) if path else os.path.join(ROOT, name)
+            if not os.path.exists(target):
+                found.append((at, "no file %s" % path))
+            elif anchor and anchor not in heading_anchors(open(target, encoding="utf-8").read()):
+                found.append((at, "no heading %s#%s" % (path, anchor)))
+    return found
+
+
+def self_test(known):
+    """A check that finds nothing anywhere shows nothing."""
+    good = "-- RULES 4.2 and 4.3: under 16 bytes left (RULES 5), docs/RULES.md\nf = le 4 s 0x01 + 1.01\n"
+    assert faults("c/specs/A.antt", good, known) == []
+    for wrong, line in (
+        (good + "-- RULES 21", 3),
+        (good + "-- RULES 4.99", 3),
+        (good + "-- RULES 4 and 99", 3),
+        (good + '-- 01, "Items"', 3),
+        (good + "-- document 01", 3),
+    ):
+        assert [at for at, _ in faults("c/specs/A.antt", wrong, known)] == [line], wrong
+    assert link_faults("README.md", "[a](docs/RULES.md#19-the-table-of-refusals) [b](#x)\n# X\n") == [(1, "no heading #x")]
+    assert link_faults("docs/A.md", "[a](RULES.md) [b](../README.md) [c](docs/RULES.md)") == [(1, "no file docs/RULES.md")]
+    assert faults("c/src/a.rt", '// 01, "Items"\n', known) == []
+    assert faults("c/src/a.rt", "// RULES 21\n", known) != []
+
+
+def main():
+    with open(os.path.join(ROOT, "docs", "RULES.md"), encoding="utf-8") as page:
+        known = sections(page.read())
+    self_test(known)
+    bad, cited = [], 0
+    for path in [os.path.join(ROOT, "README.md")] + sorted(glob.glob(os.path.join(ROOT, "docs", "*.md"))):
+        name = os.path.relpath(path, ROOT)
+        with open(path, encoding="utf-8") as page:
+            text = page.read()
+        bad += ["%s:%d: %s" % (name, at, what) for at, what in faults(name, text, known) + link_faults(name, text)]
+    for path in sorted(glob.glob(os.path.join(ROOT, "crates", "**", "*"), recursive=True)):
+        name = os.path.relpath(path, ROOT)
+        if os.path.splitext(path)[1] not in (".rt", ".antt", ".edit") or os.sep + "out" + os.sep in path:
+            continue
+        with open(path, encoding="utf-8") as source:
+            text = source.read()
+        cited += len(CITED.findall(text))
+        bad += ["%s:%d: %s" % (name, at, what) for at, what in faults(name, text, known)]
+    if bad:
+        sys.exit("citations: %d faults\n%s" % (len(bad), "\n".join(bad)))
+    print("citations: %d citations of docs/RULES.md, each of a section that is there" % cited)
+
+
+if __name__ == "__main__":
+    main()
