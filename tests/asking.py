@@ -1,7 +1,7 @@
 """Questions to a program that answers for the library, and the comparison of its answers with the expected ones.
 
-`rt ci` leaves each proved program at crates/NAME/out/NAME and sets aside what was there before, so the program there is the
-one that this very run proved. `rt run` in crates/NAME leaves it there too.
+`rt ci` leaves each program at crates/NAME/out/NAME, built from what it proved, or had proved before and kept, and sets aside
+what was there. `rt run` in crates/NAME leaves it there too.
 """
 import os
 import platform

@@ -18,7 +18,7 @@ use Rattle.list.specs.declared.Entry.{Entry}
 use Rattle.record.specs.Told.{Lent, lent}
 use Rattle.record.specs.Walk.{walk_from, attributes_of}
 use Rattle.record.specs.Search.{Searched, behind_one, find_in}
-use Rattle.items.specs.Lookup.{opened_as, lookup_of}
+use Rattle.items.specs.Lookup.{opened_as, held_by, lookup_of}
 use Rattle.items.specs.Read.{Read, own, entry, sought, joined, spot}
 use Rattle.items.specs.State.{list_at, state, lies_in, key_of}
 use Rattle.items.specs.Items.{Left, leaves, reading, item, entries_of, passed_over, found_in, sought_of, item_by}
@@ -48,7 +48,7 @@ numbered w miss (Some b) t e = let k = back (check_file b w) (λ _. gives (lent 
 
 looked-number : (s : List ℕ) (n : RecordNumber) (look : RecordNumber → Option (List ℕ)) (w : RecordNumber) (place : ℕ)
     (t : Lent) → lookup_of s n look w place ≡ gives t → w ≡ t.number
-unfolding lookup_of
+unfolding lookup_of held_by
 looked-number s n look w place t e = numbered w _ _ t e
 
 module _ (s : List ℕ) (n : RecordNumber) (look : RecordNumber → Option (List ℕ)) where

@@ -10,7 +10,7 @@ use Rattle.list.specs.declared.Entry.{Entry}
 use Rattle.record.specs.Open.{check_file}
 use Rattle.record.specs.Told.{Lent, lent}
 use Rattle.record.proofs.Searches.{few as few_in}
-use Rattle.items.specs.Lookup.{opened_as, lookup_of}
+use Rattle.items.specs.Lookup.{opened_as, held_by, lookup_of}
 use Rattle.items.specs.Items.{found_in, sought_of}
 use Rattle.bound.specs.Listing.{Sized}
 
@@ -31,7 +31,7 @@ module _ (s : List ℕ) (n : RecordNumber) (look : RecordNumber → Option (List
 
   pub lookup-sized : (w : RecordNumber) (place : ℕ) (t : Lent) → lookup_of s n look w place ≡ gives t
       → length t.bytes ≤ length s
-  unfolding lookup_of
+  unfolding lookup_of held_by
   lookup-sized w place t e = opened-sized w _ _ (choice (eqb w.0 n.0) (look w) (z w)) t e
 
   few-found : (e : Entry) (place : ℕ) (a : Answer Lent) → lookup_of s n look e.file place ≡ a

@@ -23,15 +23,6 @@ use Rattle.bound.specs.Told.{room}
 use Rattle.bound.proofs.Tables.{every_file}
 use Rattle.bound.proofs.Calls.{counts_so}
 
-put-size : (xs : List Part) (k : ℕ) (gs : List Given) → length (put xs k gs) ≡ length xs
-unfolding put
-put-size xs k [] = refl
-put-size xs k (g ∷ gs) = put-size (set xs k g.part) (k + 1) gs ∙ length-set xs k g.part
-
-pub told_size : (xs ys : List Part) (r : Filled) (p : Parts) → filled ys r ≡ told_parts xs p → length ys ≡ length xs
-unfolding told_parts
-told_size xs ys r p e = ap (λ (t : Told). length t.list) e ∙ put-size xs 0 p.given
-
 told-reads : (xs ys : List Part) (r : Filled) (p : Parts) → filled ys r ≡ told_parts xs p → r.reads ≡ length p.reads
 unfolding told_parts
 told-reads xs ys r p e = ap (λ (t : Told). t.reads) e

@@ -33,16 +33,20 @@ module _ (s : List ℕ) (n : RecordNumber) where
   pub outside_by : (o : Option Rest) (r : Refused) → refuses r ≡ inside_of s n o → Outside o r
   unfolding inside_of
   outside_by o r e =
-      let w = not_first (lies_in (length s) o) (gives tt) (refuses (refusal 22 n 0)) (refuses r) (sym e) (λ q. refused-given (sym q)) in
+      let w = not_first (lies_in (length s) o) (gives tt) (refuses (refusal 22 n 0)) (refuses r) (sym e)
+      (λ q. refused-given (sym q)) in
       record { lies = w.0; is = cc }
 
   module _ (look : RecordNumber → Option (List ℕ)) (w : State) where
-    pub next_inside : (x : Reported) → gives tt ≡ inside_of s n w.list → x ≡ report_of (next_in s n look w) → x ≡ report_of (next_of s n look w)
+    pub next_inside : (x : Reported) → gives tt ≡ inside_of s n w.list → x ≡ report_of (next_in s n look w)
+        → x ≡ report_of (next_of s n look w)
     unfolding next_of
     next_inside x e i = i ∙ rw (passed w.list e)
 
-    pub next_outside : (r : Refused) → refuses r ≡ inside_of s n w.list → reported (refuses r) w 0 ≡ report_of (next_of s n look w)
+    pub next_outside : (r : Refused) → refuses r ≡ inside_of s n w.list
+        → reported (refuses r) w 0 ≡ report_of (next_of s n look w)
     unfolding next_of report_of
-    next_outside r e = let o = outside_by w.list r e in rw o.lies (ap (λ (x : Refused). reported (refuses x) w 0) (sym o.is))
+    next_outside r e = let o = outside_by w.list r e in rw o.lies
+        (ap (λ (x : Refused). reported (refuses x) w 0) (sym o.is))
 
 pub ruleset insides = (lies_inside, next_inside, next_outside)

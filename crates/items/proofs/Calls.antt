@@ -1,5 +1,5 @@
 -- The calls of a walk from a state: the call there, and those behind it.
-use Rattle.std.proofs.Common.{ℕ, zero, suc, ◌+◌, ◌-◌, ◌<◌, ◌≤◌, ◌≡◌, List, [], ◌∷◌, length, refl, sym, ap, ◌∙◌, arith}
+use Rattle.std.proofs.Common.{ℕ, zero, suc, ◌-◌, ◌<◌, ◌≡◌, List, [], ◌∷◌, length, refl, sym, ap, ◌∙◌, arith}
 use Rattle.std.specs.Prelude.{Option}
 use Rattle.fields.specs.Answer.{Answer, gives, ends, refuses, Refused}
 use Rattle.fields.specs.Told.{told_step}
@@ -19,24 +19,29 @@ use Rattle.items.proofs.Steps.{entry_moves}
 use Rattle.items.proofs.Falls.{falls}
 
 module _ (s : List ℕ) (n : RecordNumber) (look : RecordNumber → Option (List ℕ)) where
-  onward-same : (f g : ℕ) (w : State) (k : ℕ) → ((v : State) → weight (length s) v < k → calls s n look f v ≡ calls s n look g v)
-      → (a : Answer Item) → ((i : Item) → a ≡ gives i → weight (length s) w < k) → onward s n look (calls s n look f) w a ≡ onward s n look (calls s n look g) w a
+  onward-same : (f g : ℕ) (w : State) (k : ℕ) → ((v : State) → weight (length s) v < k
+      → calls s n look f v ≡ calls s n look g v)
+      → (a : Answer Item) → ((i : Item) → a ≡ gives i → weight (length s) w < k)
+      → onward s n look (calls s n look f) w a ≡ onward s n look (calls s n look g) w a
   unfolding onward
   onward-same f g w k same (gives i) h = same w (h i refl)
   onward-same f g w k same ends h = refl
   onward-same f g w k same (refuses r) h = refl
 
   -- any two numbers of calls that suffice give the same
-  pub enough : (f g : ℕ) (w : State) → weight (length s) w < f → weight (length s) w < g → calls s n look f w ≡ calls s n look g w
+  pub enough : (f g : ℕ) (w : State) → weight (length s) w < f → weight (length s) w < g
+      → calls s n look f w ≡ calls s n look g w
   unfolding calls
   enough zero g w l k = absurd (omega arith)
   enough (suc f) zero w l k = absurd (omega arith)
   enough (suc f) (suc g) w l k =
       let x = next_of s n look w in
       ap (λ (t : List Left). x ∷ t)
-      (onward-same f g x.left (weight (length s) w) (λ v u. enough f g v (omega arith) (omega arith)) x.answer (falls s n look w))
+      (onward-same f g x.left (weight (length s) w) (λ v u. enough f g v (omega arith) (omega arith)) x.answer
+      (falls s n look w))
 
-  onward-from : (w v : State) (a : Answer Item) → ((i : Item) → a ≡ gives i → weight (length s) v < weight (length s) w)
+  onward-from : (w v : State) (a : Answer Item) → ((i : Item) → a ≡ gives i
+      → weight (length s) v < weight (length s) w)
       → onward s n look (calls s n look (weight (length s) w)) v a ≡ onward s n look (calls_from s n look) v a
   unfolding onward calls_from
   onward-from w v (gives i) h = enough _ _ v (h i refl) (omega arith)
@@ -44,9 +49,11 @@ module _ (s : List ℕ) (n : RecordNumber) (look : RecordNumber → Option (List
   onward-from w v (refuses r) h = refl
 
   -- the first call, and those behind it
-  pub called : (w : State) → calls_from s n look w ≡ next_of s n look w ∷ onward s n look (calls_from s n look) (next_of s n look w).left (next_of s n look w).answer
+  pub called : (w : State) → calls_from s n look w ≡ next_of s n look w ∷ onward s n look (calls_from s n look)
+      (next_of s n look w).left (next_of s n look w).answer
   unfolding calls_from calls
-  called w = ap (λ (t : List Left). next_of s n look w ∷ t) (onward-from w (next_of s n look w).left (next_of s n look w).answer (falls s n look w))
+  called w = ap (λ (t : List Left). next_of s n look w ∷ t) (onward-from w (next_of s n look w).left
+      (next_of s n look w).answer (falls s n look w))
 
   -- x is what a call reports that gives l
   module _ (x : Reported) where
@@ -58,7 +65,8 @@ module _ (s : List ℕ) (n : RecordNumber) (look : RecordNumber → Option (List
         let b : l.left ≡ x.left = sym (ap (λ (x : Reported). x.left) e) in
         rw (a, b) refl
 
-    last_end : (l : Left) → x ≡ report_of l → ends ≡ x.answer → items_in (l ∷ onward s n look (calls_from s n look) l.left l.answer) ≡ []
+    last_end : (l : Left) → x ≡ report_of l → ends ≡ x.answer
+        → items_in (l ∷ onward s n look (calls_from s n look) l.left l.answer) ≡ []
     unfolding items_in answered report_of
     last_end l e g = let a : l.answer ≡ ends = sym (g ∙ ap (λ (x : Reported). x.answer) e) in rw a refl
 
@@ -93,7 +101,8 @@ module _ (s : List ℕ) (n : RecordNumber) (look : RecordNumber → Option (List
   unfolding given_by
   given_so w [] c = refl
   given_so w (r ∷ rs) c =
-      ap (answered (told_step r.answer)) (given_so r.left rs c.1) ∙ then_rest w (told_next r) c.0 (told_step r.answer) refl
+      ap (answered (told_step r.answer)) (given_so r.left rs c.1)
+      ∙ then_rest w (told_next r) c.0 (told_step r.answer) refl
 
 pub calls_give_items : CallsGiveItems
 calls_give_items = given_so
@@ -105,6 +114,7 @@ calls_end s n look w f l = enough s n look f (suc (weight (length s) w)) w l (om
 pub entries_end : EntriesEnd
 unfolding entries_of trail
 entries_end s n from to f l =
-    trails.enough (λ at. entry_of (rest_of s (list_at at to)) n at) (λ e. e.length) to (entry_moves s n to) f (suc (to - from)) from l (omega arith)
+    trails.enough (λ at. entry_of (rest_of s (list_at at to)) n at) (λ e. e.length) to (entry_moves s n to) f
+    (suc (to - from)) from l (omega arith)
 
 pub ruleset turns = (item_next, end_next, refusal_next)

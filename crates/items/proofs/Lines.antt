@@ -13,5 +13,6 @@ use Rattle.record.specs.Value.{resident_at, full_in, resident_in, value_after, v
 use Rattle.items.specs.Lines.{BothSides}
 
 pub both_sides : BothSides
-unfolding le same is_file good_length check_file open_of opened_of attribute_at checked_at step_at name_in name_of piece_of resident_at full_in resident_in value_after value_in value_of entry_at entry_of
+unfolding le same is_file good_length check_file open_of opened_of attribute_at checked_at step_at name_in name_of
+    piece_of resident_at full_in resident_in value_after value_in value_of entry_at entry_of
 both_sides = refl

@@ -17,9 +17,17 @@ module _ (s : List ℕ) (n : RecordNumber) where
     pub least : 26 ≤ e.length
     pub most : at + e.length ≤ to
 
-  pub peel : (to at : ℕ) (e : Entry) (es : List (Answer Entry)) → gives e ∷ es ≡ entries_of s n to at → Listed to at e es
+  pub peel : (to at : ℕ) (e : Entry) (es : List (Answer Entry)) → gives e ∷ es ≡ entries_of s n to at
+      → Listed to at e es
   unfolding entries_of
   peel to at e es q =
-      let f = first (λ at. entry_of (rest_of s (list_at at to)) n at) (λ e. e.length) to (entry_moves s n to) at e es q in
+      let f = first (λ at. entry_of (rest_of s (list_at at to)) n at) (λ e. e.length) to
+      (entry_moves s n to) at e es q in
       let k = entry_moves s n to at e f.stands in
-      record { stands = f.stands; tail = f.tail; least = (entries.given (rest_of s (list_at at to)) n at e f.stands).least; most = k.most }
+      record {
+        stands = f.stands;
+        tail = f.tail;
+        least = (entries.given
+            (rest_of s (list_at at to)) n at e f.stands).least;
+        most = k.most;
+      }

@@ -1,4 +1,5 @@
--- RULES 14: a walk as a whole. The calls of next one after another, each from the state that the one before left, and the items that they give.
+-- RULES 14: a walk as a whole. The calls of next one after another, each from the state that the one before left,
+-- and the items that they give.
 use Rattle.std.specs.Prelude.{ℕ, zero, suc, List, [], ◌∷◌, length, Option, Some, None}
 use Rattle.fields.specs.Answer.{Answer, gives, ends, refuses}
 use Rattle.fields.specs.declared.RecordNumber.{RecordNumber}

@@ -1,5 +1,5 @@
 -- What holds of this chapter whatever the bytes; src/laws.rt has the functions whose contracts these are.
-use Rattle.std.specs.Prelude.{ℕ, suc, ◌+◌, ◌-◌, ◌<◌, ◌≤◌, ◌≡◌, List, [], ◌∷◌, length, Option, Some, None, IfOk, IfSome}
+use Rattle.std.specs.Prelude.{ℕ, ◌-◌, ◌<◌, ◌≤◌, ◌≡◌, List, [], ◌∷◌, length, Option, Some, None, IfOk, IfSome}
 use Rattle.fields.specs.Answer.{Answer, gives, ends}
 use Rattle.fields.specs.Told.{told_step}
 use Rattle.fields.specs.Trail.{run}
@@ -15,7 +15,7 @@ use Rattle.record.specs.declared.values.Located.{Located}
 use Rattle.items.specs.Told.{Lent, lent}
 use Rattle.items.specs.Found.{told_found}
 use Rattle.items.specs.State.{Lies, list_at, rest_of, weight}
-use Rattle.items.specs.Items.{Left, leaves, entries_of, next_of}
+use Rattle.items.specs.Items.{leaves, entries_of, next_of}
 use Rattle.items.specs.Walked.{told_next, report_of}
 use Rattle.items.specs.Calls.{calls, calls_from, answered, items_from}
 use Rattle.items.specs.OfFile.{looked_up, sought_by}
@@ -59,7 +59,8 @@ module _ (s : List ℕ) (n : RecordNumber) (look : RecordNumber → Option (List
 
 -- RULES 14: calls of next give the items of the walk, in order: however many there were, from wherever it stood
 abbrev pub CallsGiveItems : Type 0
-CallsGiveItems = (s : List ℕ) (n : RecordNumber) (look : RecordNumber → Option (List ℕ)) (w : State) (rs : List Walked)
+CallsGiveItems = (s : List ℕ) (n : RecordNumber) (look : RecordNumber → Option (List ℕ)) (w : State)
+    (rs : List Walked)
     → Called s n look w rs → given_by s n look w rs ≡ items_from s n look w
 
 -- a list that is left is the rest of the list that there was
@@ -68,7 +69,8 @@ Rests o None = Unit {0}
 Rests None (Some l) = ⊥
 Rests (Some k) (Some l) = (k.from ≤ l.from) × (l.to ≡ k.to)
 
--- a walk of a record of m bytes stood at w, and now stands at v: no raw attribute is given again, and of the open list no entry; and its
+-- a walk of a record of m bytes stood at w, and now stands at v: no raw attribute is given again, and of the open
+-- list no entry; and its
 -- list lies inside the record
 pub record Further (m : ℕ) (w v : State) : Type 0 where
   pub raw : w.raw ≤ v.raw
@@ -83,9 +85,11 @@ CallsGoOn = (s : List ℕ) (n : RecordNumber) (look : RecordNumber → Option (L
 -- the end stays the end: another call ends again, leaves the state, and reads nothing
 abbrev pub EndsStay : Type 0
 EndsStay = (s : List ℕ) (n : RecordNumber) (look : RecordNumber → Option (List ℕ)) (w : State)
-    → (next_of s n look w).answer ≡ ends → next_of s n look (next_of s n look w).left ≡ leaves ends (next_of s n look w).left
+    → (next_of s n look w).answer ≡ ends → next_of s n look (next_of s n look w).left ≡ leaves ends
+    (next_of s n look w).left
 
--- RULES 14: a walk ends. An item lowers what is left to read; as many calls as that and one more are all of it, further ones change nothing
+-- RULES 14: a walk ends. An item lowers what is left to read; as many calls as that and one more are all of it,
+-- further ones change nothing
 abbrev pub ItemsLower : Type 0
 ItemsLower = (s : List ℕ) (n : RecordNumber) (look : RecordNumber → Option (List ℕ)) (w : State) (i : Item)
     → (next_of s n look w).answer ≡ gives i → weight (length s) (next_of s n look w).left < weight (length s) w

@@ -1,4 +1,5 @@
--- RULES 20: both sides of each line, as one table: a question of these definitions, the bytes that it is asked of, and what is to be answered.
+-- RULES 20: both sides of each line, as one table: a question of these definitions, the bytes that it is asked of,
+-- and what is to be answered.
 use Rattle.std.specs.Prelude.{ℕ, ◌-◌, ◌≡◌, List, [], ◌∷◌, ◌++◌, map, length, drop, replicate}
 use Rattle.fields.specs.Answer.{Answer, gives, ends, refuses, refusal, ◌⟫◌}
 use Rattle.fields.specs.declared.RecordNumber.{RecordNumber}

@@ -6,7 +6,7 @@ use Rattle.table.specs.Held.{record_of}
 use Rattle.list.specs.declared.Entry.{Entry}
 use Rattle.record.specs.Told.{Lent}
 use Rattle.record.specs.Search.{Searched}
-use Rattle.items.specs.Lookup.{lookup_of}
+use Rattle.items.specs.Lookup.{held_by, lookup_of}
 use Rattle.items.specs.Items.{Left, sought_of, next_in, next_of}
 use Rattle.items.specs.Calls.{items_of}
 use Rattle.items.specs.First.{first_of}
@@ -17,6 +17,10 @@ use Rattle.items.specs.declared.walk.State.{State}
 -- the base record's length in bytes, which every record of the file has
 abbrev pub size_of : File → ℕ
 size_of f = length f.base.bytes.now
+
+-- RULES 11: the bytes of the record with a number
+abbrev pub held_in : File → RecordNumber → Option (List ℕ)
+held_in f wanted = held_by f.base.bytes.now f.base.number (record_of f.table.bytes.now) wanted
 
 -- RULES 11: a number looked up, with the place to blame
 abbrev pub looked_up : File → RecordNumber → ℕ → Answer Lent

@@ -1,10 +1,12 @@
--- RULES 17: one read. Each attribute that passes 3 to 5 and each entry given is one, each time, in items, lookups and parts.
+-- RULES 17: one read. Each attribute that passes 3 to 5 and each entry given is one, each time, in items, lookups
+-- and parts.
 use Rattle.std.specs.Prelude.{ℕ}
 use Rattle.fields.specs.declared.RecordNumber.{RecordNumber}
 use Rattle.record.specs.declared.layout.Attribute.{Attribute}
 use Rattle.list.specs.declared.Entry.{Entry}
 
--- an entry's list and its place: a list is told by where the attribute that opened it ends, for there the raw walk stands
+-- an entry's list and its place: a list is told by where the attribute that opened it ends, for there the raw walk
+-- stands
 pub record Spot : Type 0 where
   pub list : ℕ
   pub place : ℕ

@@ -1,5 +1,25 @@
 -- RULES 13: where a walk stands, what it passes over, and check 22.
-use Rattle.std.specs.Prelude.{ℕ, suc, ◌+◌, ◌-◌, ◌*◌, ◌≤◌, ◌&&◌, List, Bool, true, false, take, drop, eqb, ltb, length, Option, Some, None}
+use Rattle.std.specs.Prelude.{
+  ℕ,
+  suc,
+  ◌+◌,
+  ◌-◌,
+  ◌*◌,
+  ◌≤◌,
+  ◌&&◌,
+  List,
+  Bool,
+  true,
+  false,
+  take,
+  drop,
+  eqb,
+  ltb,
+  length,
+  Option,
+  Some,
+  None,
+}
 use Rattle.fields.specs.Pick.{pick}
 use Rattle.fields.specs.Answer.{Answer, gives, refuses, refusal}
 use Rattle.fields.specs.declared.RecordNumber.{RecordNumber}

@@ -9,8 +9,8 @@ impl<'a> File<'a> {
     ghost use Rattle.fields.specs.Told.{told_report};
     ghost use Rattle.items.specs.OfFile.{first_by};
 
-    /// The first item of a type, from fresh on: 6 at an item of unknown type, 18 at 0 in the base record where the walk ends without
-    /// one, and the walk's own refusals.
+    /// The first item of a type, from fresh on: 6 at an item of unknown type, 18 at 0 in the base record where the
+    /// walk ends without one, and the walk's own refusals.
     #[tactic(auto, using(crate::proofs::Firsts::firsts))]
     pub fn first_of(&self, ty: u32) -> Counted<Item>
         ensures { told_report result ≡ first_by self.now ty }

@@ -3,11 +3,12 @@ ghost use Rattle.fields.specs.Laws.{Settles};
 ghost use Rattle.record.specs.Laws.{SettlesShown};
 ghost use Rattle.items.specs.Told.{told_file};
 ghost use Rattle.items.specs.Walked.{told_next};
-ghost use Rattle.items.specs.Laws.{shown_file, SoughtSettle, CallsGiveItems, CallsGoOn, EndsStay, ItemsLower, CallsEnd, EntriesEnd};
+ghost use Rattle.items.specs.Laws.{shown_file, SoughtSettle, CallsGiveItems, CallsGoOn, EndsStay};
+ghost use Rattle.items.specs.Laws.{ItemsLower, CallsEnd, EntriesEnd};
 ghost use Rattle.items.specs.Lines.{BothSides};
 
-/// A call whose contract states its answer shows one result at most (RULES 2, 17); of other results `fields` and `record` have
-/// the law.
+/// A call whose contract states its answer shows one result at most (RULES 2, 17); of other results `fields` and
+/// `record` have the law.
 pub fn results_settle()
     ensures files { SettlesShown told_file shown_file }
     ensures searches { SoughtSettle }

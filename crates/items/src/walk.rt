@@ -30,7 +30,8 @@ pub struct State {
     pub key: Option<Key>,
 }
 
-/// An item: the record that holds it, the attribute, and for a non-resident one found by an entry the list from that entry on.
+/// An item: the record that holds it, the attribute, and for a non-resident one found by an entry the list from that
+/// entry on.
 #[derive(Clone, Copy)]
 pub struct Item {
     pub file: RecordNumber,
@@ -90,7 +91,7 @@ impl<'a> File<'a> {
     ghost use Rattle.std.specs.Prelude.{◌≡◌, ◌*◌, ◌≤◌, length, Some, IfOk, IfSome};
     ghost use Rattle.fields.specs.Answer.{gives};
     ghost use Rattle.fields.specs.Told.{told};
-    ghost use Rattle.record.specs.Told.{lent};
+    ghost use Rattle.record.specs.Laws.{shown_record};
     ghost use Rattle.record.specs.Search.{count_of};
     ghost use Rattle.items.specs.State.{fresh_of, inside_of, Lies};
     ghost use Rattle.items.specs.Items.{passed_over};
@@ -121,12 +122,13 @@ impl<'a> File<'a> {
         e.file == self.base.number || key == Some(Key::of(e))
     }
 
-    /// The attribute that an entry at a place of the base record names, in the record that it names: 17 and 2, then 3 to 6 and 18.
+    /// The attribute that an entry at a place of the base record names, in the record that it names: 17 and 2, then 3
+    /// to 6 and 18.
     #[inline(always)]
     #[tactic(auto, unfolding(crate::specs::Items::sought_of, crate::specs::Items::found_in))]
     pub fn sought(&self, e: &Entry, place: usize) -> Counted<Located<'a>>
         ensures answer { told_found result ≡ count_of (sought_by self.now e.now place) }
-        ensures within { IfOk result.answer (λ l. looked_up self.now e.now.file place ≡ gives (lent l.within.bytes.now l.within.number)) }
+        ensures within { IfOk result.answer (λ l. looked_up self.now e.now.file place ≡ gives (shown_record l.within)) }
         ensures few { 16 * result.reads ≤ size_of self.now }
     {
         let miss = Refusal {
@@ -153,8 +155,8 @@ impl<'a> File<'a> {
         }
     }
 
-    // The next item, the end or a refusal, from a state whose list lies inside the record: the entry loop inside the raw loop, as the
-    // rules have it, left by label.
+    // The next item, the end or a refusal, from a state whose list lies inside the record: the entry loop inside the
+    // raw loop, as the rules have it, left by label.
     #[tactic(auto, using(crate::proofs::Steps::steps))]
     fn next_inside(&self, from: State) -> Walked
         requires { IfSome from.list (Lies (size_of self.now)) }

@@ -4,7 +4,6 @@ pub mod Told
 pub mod Listing
 pub mod InFile
 pub mod Rest
-pub mod Begun
 pub mod Page
 pub mod Went
 pub mod Laws

@@ -46,22 +46,27 @@ most_line = 256
 abbrev pub newline : List ℕ
 newline = 10 ∷ []
 
+-- a text behind a space
+abbrev pub spaced : List ℕ → List ℕ
+spaced x = 32 ∷ x
+
 abbrev pub name_text : Name → List ℕ
-name_text (at p) = words " name" (p.from ∷ p.bytes ∷ [])
-name_text (refused n) = words " name refused" (n ∷ [])
+name_text (at p) = words "name" (p.from ∷ p.bytes ∷ [])
+name_text (refused n) = words "name refused" (n ∷ [])
 
 abbrev pub contents_text : Contents → List ℕ
-contents_text (resident p) = words " value resident" (p.from ∷ p.bytes ∷ [])
-contents_text (runs p size) = words " value runs" (p.from ∷ p.bytes ∷ []) ++ words " size" (size ∷ [])
-contents_text (unread n) = words " value refused" (n ∷ [])
-contents_text (parts k size) = words " value parts" (k ∷ []) ++ words " size" (size ∷ [])
-contents_text (parts_refused k n) = words " value parts" (k ∷ []) ++ words " refused" (n ∷ [])
+contents_text (resident p) = words "value resident" (p.from ∷ p.bytes ∷ [])
+contents_text (runs p size) = words "value runs" (p.from ∷ p.bytes ∷ []) ++ words " size" (size ∷ [])
+contents_text (unread n) = words "value refused" (n ∷ [])
+contents_text (parts k size) = words "value parts" (k ∷ []) ++ words " size" (size ∷ [])
+contents_text (parts_refused k n) = words "value parts" (k ∷ []) ++ words " refused" (n ∷ [])
 
 abbrev pub attribute_numbers : Attribute → List ℕ
 attribute_numbers a = a.file.0 ∷ a.offset ∷ a.ty ∷ a.length ∷ a.instance ∷ []
 
 abbrev pub attribute_text : Attribute → List ℕ
-attribute_text a = words "attr" (attribute_numbers a) ++ name_text a.name ++ contents_text a.contents ++ newline
+attribute_text a =
+    words "attr" (attribute_numbers a) ++ spaced (name_text a.name) ++ spaced (contents_text a.contents) ++ newline
 
 -- RECORD OFFSET VCN RUNOFFSET RUNBYTES
 abbrev pub part_numbers : Part → List ℕ

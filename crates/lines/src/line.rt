@@ -1,5 +1,6 @@
 //! One line of a listing, and its text (RULES 18.2 to 18.4).
 ghost use Rattle.std.specs.Prelude.{◌≡◌, Some, [], ◌∷◌};
+ghost use Rattle.fields.specs.Told.{number_of};
 ghost use Rattle.text.specs.Decimal.{numbers, words};
 ghost use Rattle.lines.specs.Line.{name_text, contents_text, part_numbers, line_text};
 ghost use Rattle.lines.specs.Told.{told_name, told_contents, told_line};
@@ -77,6 +78,17 @@ impl fmt::Display for DataSize {
 }
 
 #[derive(Clone, Copy)]
+struct ByCause(Cause);
+
+impl fmt::Display for ByCause {
+    ghost output = { λ c. Some (words " refused" (number_of c.0 ∷ [])) };
+
+    fn fmt<W: fmt::Write>(&self, f: &mut fmt::Formatter<W>) -> fmt::Result {
+        write!(f, " refused {}", self.0.number())
+    }
+}
+
+#[derive(Clone, Copy)]
 struct Five(u64, u64, u64, u64, u64);
 
 impl fmt::Display for Five {
@@ -92,8 +104,8 @@ impl fmt::Display for Name {
 
     fn fmt<W: fmt::Write>(&self, f: &mut fmt::Formatter<W>) -> fmt::Result {
         match *self {
-            Name::At(span) => write!(f, " name {} {}", span.from, span.bytes),
-            Name::Refused(cause) => write!(f, " name refused {}", cause.number()),
+            Name::At(span) => write!(f, "name {} {}", span.from, span.bytes),
+            Name::Refused(cause) => write!(f, "name refused {}", cause.number()),
         }
     }
 }
@@ -103,19 +115,20 @@ impl fmt::Display for Contents {
 
     fn fmt<W: fmt::Write>(&self, f: &mut fmt::Formatter<W>) -> fmt::Result {
         match *self {
-            Contents::Resident(span) => write!(f, " value resident {} {}", span.from, span.bytes),
+            Contents::Resident(span) => write!(f, "value resident {} {}", span.from, span.bytes),
             Contents::Runs { runs, size } => {
                 let pair = Pair(runs.from, runs.bytes);
                 let size = DataSize(size);
-                write!(f, " value runs{pair}{size}")
+                write!(f, "value runs{pair}{size}")
             }
-            Contents::Refused(cause) => write!(f, " value refused {}", cause.number()),
+            Contents::Refused(cause) => write!(f, "value refused {}", cause.number()),
             Contents::Parts { count, size } => {
                 let size = DataSize(size);
-                write!(f, " value parts {count}{size}")
+                write!(f, "value parts {count}{size}")
             }
             Contents::PartsRefused { count, cause } => {
-                write!(f, " value parts {count} refused {}", cause.number())
+                let refused = ByCause(cause);
+                write!(f, "value parts {count}{refused}")
             }
         }
     }
@@ -126,7 +139,7 @@ impl AttributeLine {
     ghost use Rattle.lines.specs.Told.{told_attribute};
     ghost use Rattle.lines.specs.Line.{attribute_numbers};
 
-    // The five numbers behind its first word.
+    // The five numbers behind its first word, for `Five` and for put_words: one place has their order for both.
     pub fn numbers(&self) -> [u64; 5]
         ensures { result ≡ attribute_numbers (told_attribute self.now) }
     {
@@ -140,7 +153,7 @@ impl AttributeLine {
     }
 }
 
-// The five numbers of a part's line.
+// The five numbers of a part's line, for both as well.
 pub fn part_numbers(part: &Part) -> [u64; 5]
     ensures { result ≡ part_numbers part.now }
 {
@@ -162,7 +175,7 @@ impl fmt::Display for Line {
             Line::Attribute(a) => {
                 let [file, offset, ty, length, instance] = a.numbers();
                 let five = Five(file, offset, ty, length, instance);
-                writeln!(f, "attr{five}{}{}", a.name, a.contents)
+                writeln!(f, "attr{five} {} {}", a.name, a.contents)
             }
             Line::Part(p) => {
                 let [file, offset, lowest, from, bytes] = part_numbers(&p);

@@ -3,7 +3,7 @@
 // buffer and where its text ends are two for the reason in text.
 ghost use Rattle.std.specs.Prelude.{◌+◌, ◌≤◌, length};
 ghost use Rattle.text.specs.Put.{Put};
-ghost use Rattle.lines.specs.Line.{most_line, name_text, contents_text, attribute_text, part_text, line_text};
+ghost use Rattle.lines.specs.Line.{most_line, spaced, name_text, contents_text, attribute_text, part_text, line_text};
 ghost use Rattle.lines.specs.Told.{told_name, told_contents, told_attribute, told_line};
 
 use crate::line::part_numbers;
@@ -14,7 +14,7 @@ use text::{put_byte, put_words};
 
 fn put_name(out: &mut [u8], at: usize, name: Name) -> usize
     requires { at + 55 ≤ length out.old }
-    ensures { Put out.old at out.new result (name_text (told_name name)) 55 }
+    ensures { Put out.old at out.new result (spaced (name_text (told_name name))) 55 }
 {
     match name {
         Name::At(span) => put_words(out, at, b" name", &[span.from as u64, span.bytes as u64]),
@@ -24,7 +24,7 @@ fn put_name(out: &mut [u8], at: usize, name: Name) -> usize
 
 fn put_contents(out: &mut [u8], at: usize, contents: Contents) -> usize
     requires { at + 79 ≤ length out.old }
-    ensures { Put out.old at out.new result (contents_text (told_contents contents)) 79 }
+    ensures { Put out.old at out.new result (spaced (contents_text (told_contents contents))) 79 }
 {
     match contents {
         Contents::Resident(span) => put_words(

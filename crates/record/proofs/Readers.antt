@@ -5,10 +5,9 @@ use Rattle.std.specs.Prelude.{Option, Result}
 use Rattle.fields.specs.Answer.{Answer, ends, refuses}
 use Rattle.fields.specs.declared.RecordNumber.{RecordNumber}
 use Rattle.fields.specs.declared.Refusal.{Refusal}
-use Rattle.fields.proofs.Settled.{step-settled}
 use Rattle.record.specs.Walk.{step_at}
 use Rattle.record.specs.Reader.{place_after, answer_of, place_of}
-use Rattle.record.specs.Laws.{TakesSettle, Taken, TakesWalk, PlacesRise, Still, EndsStay}
+use Rattle.record.specs.Laws.{Taken, TakesWalk, PlacesRise, Still, EndsStay}
 use Rattle.record.specs.Laws.{RefusalsStay, EndsRest, RefusalsRest}
 use Rattle.record.specs.declared.Record.{Record}
 use Rattle.record.specs.declared.layout.Attribute.{Attribute}
@@ -25,10 +24,6 @@ unfolding made
 same r t w p =
     let e : made r.within r.at ≡ made t.within t.at = ap (λ x. made x r.at) w ∙ ap (made t.within) p in
     e
-
-pub took-settled : TakesSettle
-took-settled q r t x y a b =
-    (step-settled x y _ a.answer b.answer, same r t (a.within ∙ sym b.within) (a.place ∙ sym b.place))
 
 pub end-rests : EndsRest
 unfolding place_after

@@ -22,11 +22,6 @@ use Rattle.record.specs.declared.layout.FullHeader.TheVariants as header
 use Rattle.record.specs.declared.layout.Span.{Span}
 
 module _ (s : List ℕ) (n : RecordNumber) (h : Attribute) where
-  resident-list : (f : ResidentHeader) (q : Piece) → resident_in s n h f ≡ gives q → h.offset + h.length ≤ length s
-      → q.from + f.value_length ≤ h.offset + h.length
-  unfolding resident_in piece_of
-  resident-list f q e i = grind (arith, nat_tests)
-
   list-after : (f : FullHeader) (p : Span) → list_after s n h f ≡ gives p → h.offset + h.length ≤ length s
       → (h.offset ≤ p.from) × (p.from + p.bytes ≤ h.offset + h.length)
   unfolding list_after resident_in piece_of

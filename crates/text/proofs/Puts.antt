@@ -122,11 +122,3 @@ pub one_number : {d e f g : List ℕ} {at k m end : ℕ} (s : List ℕ) (i : ℕ
     → Put d at e k (numbers (take i s)) (21 * i) → Put e k f m (32 ∷ []) 1
     → Put f m g end (decimal (get_or s i 0)) 20 → Put d at g end (numbers (take (i + 1) s)) (21 * (i + 1))
 one_number s i h p q n = said (both p (both q n)) (number_more s i h) (omega arith)
-
--- a put ends as far behind as its text is long
-pub put-length : {d e t : List ℕ} {at end n : ℕ} → Put d at e end t n → at ≤ length d → end ≤ length d
-    → end ≡ at + length t
-put-length {d} {e} {t} {at} {end} p a b =
-    let q = p.long in
-    sym (length-take-le end e (omega arith)) ∙ ap length p.is ∙ length-append (take at d) t
-    ∙ ap (λ (k : ℕ). k + length t) (length-take-le at d a)

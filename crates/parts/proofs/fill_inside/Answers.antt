@@ -1,4 +1,4 @@
--- What each step read is paid by what it left behind.
+-- What each step read is paid by what it left behind: by `entry_room`, and arithmetic.
 use Rattle.std.proofs.Common.{arith, sym, ap, ◌∙◌, length-set}
 use Rattle.fields.specs.Told.{told, told_report}
 use Rattle.items.proofs.Steps.{entry_room}

@@ -13,7 +13,8 @@ pub items-preserved : goal.items-preserved
 items-preserved c =
     let p = c.next-walked.ensures.paid in let q = c.items.invariant.paid in
     record {
-      same = first_other _ _ _ _ _ _ c.items.invariant.same (told_next c.next-walked.result) c.next-walked.ensures.answer c.in-Ok-Some.item (search rules)
+      same = first_other _ _ _ _ _ _ c.items.invariant.same (told_next c.next-walked.result)
+          c.next-walked.ensures.answer c.in-Ok-Some.item (search rules)
           (sym c.if-not-known_type.ensures) c.if-item-ty.false;
       paid = omega arith;
     }
@@ -21,18 +22,23 @@ items-preserved c =
 pub returns-in-Ok-None : goal.returns-in-Ok-None
 returns-in-Ok-None c =
     ap (λ (a : Answer Item). report a (c.items.reads + c.next-walked.result.reads)) c.refused-answer.ensures
-    ∙ first_ends _ _ _ _ _ _ c.items.invariant.same (told_next c.next-walked.result) c.next-walked.ensures.answer (search rules)
+    ∙ first_ends _ _ _ _ _ _ c.items.invariant.same (told_next c.next-walked.result) c.next-walked.ensures.answer
+    (search rules)
 
 pub returns-in-Err : goal.returns-in-Err
-returns-in-Err c = first_refused _ _ _ _ _ _ c.items.invariant.same (told_next c.next-walked.result) c.next-walked.ensures.answer _ (search rules)
+returns-in-Err c = first_refused _ _ _ _ _ _ c.items.invariant.same
+    (told_next c.next-walked.result) c.next-walked.ensures.answer _ (search rules)
 
 pub returns-then-not-known_type : goal.returns-then-not-known_type
 returns-then-not-known_type c =
-    ap (λ (a : Result Item Refusal). report (told a) (c.items.reads + c.next-walked.result.reads)) c.refuses-answer.ensures
-    ∙ first_unknown _ _ _ _ _ _ c.items.invariant.same (told_next c.next-walked.result) c.next-walked.ensures.answer c.in-Ok-Some.item (search rules)
+    ap (λ (a : Result Item Refusal). report (told a) (c.items.reads + c.next-walked.result.reads))
+    c.refuses-answer.ensures
+    ∙ first_unknown _ _ _ _ _ _ c.items.invariant.same (told_next c.next-walked.result) c.next-walked.ensures.answer
+    c.in-Ok-Some.item (search rules)
     (sym c.if-not-known_type.ensures)
 
 pub returns-then-item-ty : goal.returns-then-item-ty
 returns-then-item-ty c =
-    first_found _ _ _ _ _ _ c.items.invariant.same (told_next c.next-walked.result) c.next-walked.ensures.answer c.in-Ok-Some.item (search rules)
+    first_found _ _ _ _ _ _ c.items.invariant.same (told_next c.next-walked.result) c.next-walked.ensures.answer
+    c.in-Ok-Some.item (search rules)
     (sym c.if-not-known_type.ensures) c.if-item-ty.true

@@ -9,7 +9,8 @@ use Rattle.items.proofs.File.first_of.Given as goal
 abbrev pub invariant-items : goal.invariant-items
 invariant-items l = record {
   same : first_of l.self.base.bytes.now l.self.base.number (record_of l.self.table.bytes.now) l.ty
-      ≡ counting l.reads (first_in l.self.base.number l.ty (calls_from l.self.base.bytes.now l.self.base.number (record_of l.self.table.bytes.now) l.at));
+      ≡ counting l.reads (first_in l.self.base.number l.ty (calls_from l.self.base.bytes.now l.self.base.number
+      (record_of l.self.table.bytes.now) l.at));
   paid : l.reads + 257 * weight (length l.self.base.bytes.now) l.at ≤ 514 * length l.self.base.bytes.now;
 }
 

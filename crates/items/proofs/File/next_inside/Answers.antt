@@ -1,4 +1,4 @@
--- What each step of the two loops read is paid by what it left behind.
+-- What each step of the two loops read is paid by what it left behind: each by entry_room, raw_room or list_room, and arithmetic.
 use Rattle.std.proofs.Common.{arith, sym, ap}
 use Rattle.items.specs.State.{left_in}
 use Rattle.items.proofs.Steps.{entry_room, raw_room, list_room, entry_passed, raw_list}
@@ -25,7 +25,8 @@ entries-preserved c =
     let l = rw c.in-Some.is at c.entries.invariant.lies in let u = l.order in let v = l.most in
     let q = ap left_in c.in-Some.is in
     record {
-      same = entry_passed _ _ _ _ _ _ _ c.entries.invariant.same _ c.in-Some.is _ g (sym c.if-not-known_type.ensures) (sym c.if-passes_over.ensures);
+      same = entry_passed _ _ _ _ _ _ _ c.entries.invariant.same _ c.in-Some.is _ g (sym c.if-not-known_type.ensures)
+          (sym c.if-passes_over.ensures);
       lies = record { order = omega arith; most = omega arith };
       paid = omega arith;
       less = omega arith;
@@ -33,7 +34,8 @@ entries-preserved c =
 
 pub overflow_add-at-in-raw : goal.overflow_add-at-in-raw
 overflow_add-at-in-raw c =
-    let w = raw_room _ _ _ _ (rw c.in-Ok-Some-step.field-0-is at c.in-Ok-Some-step.ensures.answer) in let x = w.most in
+    let w = raw_room _ _ _ _ (rw c.in-Ok-Some-step.field-0-is at c.in-Ok-Some-step.ensures.answer) in let x = w.most
+    in
     let z = c.args.self.now.base.most in
     omega arith
 
@@ -41,7 +43,8 @@ pub overflow_add-at-in-Ok-list : goal.overflow_add-at-in-Ok-list
 overflow_add-at-in-Ok-list c =
     let z = c.args.self.now.base.most in
     let g = rw c.in-Ok-Some-step.field-0-is at c.in-Ok-Some-step.ensures.answer in
-    let w = list_room _ _ _ _ (rw c.in-Ok-Some-step.field-0-is at c.in-Ok-Some-step.ensures.inside) c.in-Ok-list.ensures in let x = w.most in
+    let w = list_room _ _ _ _ (rw c.in-Ok-Some-step.field-0-is at c.in-Ok-Some-step.ensures.inside)
+    c.in-Ok-list.ensures in let x = w.most in
     omega arith
 
 pub raw-smaller : goal.raw-smaller
@@ -49,7 +52,8 @@ raw-smaller c =
     let z = c.args.self.now.base.most in
     let g = rw c.in-Ok-Some-step.field-0-is at c.in-Ok-Some-step.ensures.answer in
     let r = raw_room _ _ _ _ g in let a = r.least in let b = r.most in
-    let w = list_room _ _ _ _ (rw c.in-Ok-Some-step.field-0-is at c.in-Ok-Some-step.ensures.inside) c.in-Ok-list.ensures in let x = w.short in
+    let w = list_room _ _ _ _ (rw c.in-Ok-Some-step.field-0-is at c.in-Ok-Some-step.ensures.inside)
+    c.in-Ok-list.ensures in let x = w.short in
     let q = ap left_in c.in_default.is in
     omega arith
 
@@ -58,10 +62,12 @@ raw-preserved c =
     let z = c.args.self.now.base.most in
     let g = rw c.in-Ok-Some-step.field-0-is at c.in-Ok-Some-step.ensures.answer in
     let r = raw_room _ _ _ _ g in let a = r.least in let b = r.most in
-    let w = list_room _ _ _ _ (rw c.in-Ok-Some-step.field-0-is at c.in-Ok-Some-step.ensures.inside) c.in-Ok-list.ensures in let x = w.short in let y = w.most in
+    let w = list_room _ _ _ _ (rw c.in-Ok-Some-step.field-0-is at c.in-Ok-Some-step.ensures.inside)
+    c.in-Ok-list.ensures in let x = w.short in let y = w.most in
     let q = ap left_in c.in_default.is in
     record {
-      same = raw_list _ _ _ _ _ _ _ c.entries.invariant.same c.in_default.is _ g _ c.if-attribute-ne-ATTRIBUTE_LIST.false c.in-Ok-list.ensures;
+      same = raw_list _ _ _ _ _ _ _ c.entries.invariant.same c.in_default.is _ g _
+          c.if-attribute-ne-ATTRIBUTE_LIST.false c.in-Ok-list.ensures;
       lies = record { order = omega arith; most = omega arith };
       paid = omega arith;
     }
@@ -82,7 +88,8 @@ returns-else-attribute-clause-lower c =
 
 pub returns-then-attribute-ne-ATTRIBUTE_LIST-clause-lower : goal.returns-then-attribute-ne-ATTRIBUTE_LIST-clause-lower
 returns-then-attribute-ne-ATTRIBUTE_LIST-clause-lower c =
-    let r = raw_room _ _ _ _ (rw c.in-Ok-Some-step.field-0-is at c.in-Ok-Some-step.ensures.answer) in let a = r.least in let b = r.most in
+    let r = raw_room _ _ _ _ (rw c.in-Ok-Some-step.field-0-is at c.in-Ok-Some-step.ensures.answer) in let a = r.least
+    in let b = r.most in
     omega arith
 
 pub returns-then-not-known_type-clause-paid : goal.returns-then-not-known_type-clause-paid
@@ -115,10 +122,12 @@ returns-else-attribute-clause-paid c =
 
 pub returns-then-attribute-ne-ATTRIBUTE_LIST-clause-paid : goal.returns-then-attribute-ne-ATTRIBUTE_LIST-clause-paid
 returns-then-attribute-ne-ATTRIBUTE_LIST-clause-paid c =
-    let r = raw_room _ _ _ _ (rw c.in-Ok-Some-step.field-0-is at c.in-Ok-Some-step.ensures.answer) in let a = r.least in let b = r.most in
+    let r = raw_room _ _ _ _ (rw c.in-Ok-Some-step.field-0-is at c.in-Ok-Some-step.ensures.answer) in let a = r.least
+    in let b = r.most in
     omega arith
 
 pub returns-in-Err-list-clause-paid : goal.returns-in-Err-list-clause-paid
 returns-in-Err-list-clause-paid c =
-    let r = raw_room _ _ _ _ (rw c.in-Ok-Some-step.field-0-is at c.in-Ok-Some-step.ensures.answer) in let a = r.least in let b = r.most in
+    let r = raw_room _ _ _ _ (rw c.in-Ok-Some-step.field-0-is at c.in-Ok-Some-step.ensures.answer) in let a = r.least
+    in let b = r.most in
     omega arith

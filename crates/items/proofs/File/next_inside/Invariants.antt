@@ -10,9 +10,11 @@ use Rattle.items.proofs.File.next_inside.Given as goal
 abbrev pub invariant-entries : goal.invariant-entries
 invariant-entries l = record {
   same : report_of (next_in l.self.base.bytes.now l.self.base.number (record_of l.self.table.bytes.now) l.fn.from)
-      ≡ after l.reads (next_by l.self.base.bytes.now l.self.base.number (record_of l.self.table.bytes.now) l.at.raw l.at.list l.at.key);
+      ≡ after l.reads (next_by l.self.base.bytes.now l.self.base.number
+      (record_of l.self.table.bytes.now) l.at.raw l.at.list l.at.key);
   lies : IfSome l.at.list (Lies (length l.self.base.bytes.now));
-  paid : l.reads + 257 * weight (length l.self.base.bytes.now) l.at ≤ 257 * weight (length l.self.base.bytes.now) l.fn.from;
+  paid : l.reads + 257 * weight (length l.self.base.bytes.now) l.at ≤ 257 * weight
+      (length l.self.base.bytes.now) l.fn.from;
   less : weight (length l.self.base.bytes.now) l.at ≤ weight (length l.self.base.bytes.now) l.initial.at;
 }
 
@@ -22,9 +24,11 @@ decreases-entries l = weight (length l.self.base.bytes.now) l.at
 abbrev pub invariant-raw : goal.invariant-raw
 invariant-raw l = record {
   same : report_of (next_in l.self.base.bytes.now l.self.base.number (record_of l.self.table.bytes.now) l.fn.from)
-      ≡ after l.reads (next_by l.self.base.bytes.now l.self.base.number (record_of l.self.table.bytes.now) l.at.raw l.at.list l.at.key);
+      ≡ after l.reads (next_by l.self.base.bytes.now l.self.base.number
+      (record_of l.self.table.bytes.now) l.at.raw l.at.list l.at.key);
   lies : IfSome l.at.list (Lies (length l.self.base.bytes.now));
-  paid : l.reads + 257 * weight (length l.self.base.bytes.now) l.at ≤ 257 * weight (length l.self.base.bytes.now) l.fn.from;
+  paid : l.reads + 257 * weight (length l.self.base.bytes.now) l.at ≤ 257 * weight
+      (length l.self.base.bytes.now) l.fn.from;
 }
 
 abbrev pub decreases-raw : goal.decreases-raw

@@ -2,6 +2,9 @@ use Rattle.std.proofs.Common.{arith}
 use Rattle.text.proofs.Puts.{both, said}
 use Rattle.lines.proofs.put.put_contents.Goals as goal
 
+pub returns-in-Refused : goal.returns-in-Refused
+returns-in-Refused c = rw c.in-Refused.is (said c.put_words-in-Refused.ensures (cc) (omega arith))
+
 pub returns-in-Runs : goal.returns-in-Runs
 returns-in-Runs c = rw c.in-Runs.is (said (both c.put_words-end.ensures c.put_words-in-Runs.ensures) (cc)
     (omega arith))
