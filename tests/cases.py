@@ -273,12 +273,16 @@ def quick(program):
 
 # What cannot be read or written.
 
+UNREAD = "listing: standard input could not be read to its end; nothing is listed"
+
+
 def no_listing(program, **given):
-    """A failed read says so on standard error, and no line of a listing is written."""
+    """A failed read says so on standard error, in these words, and no line of a listing is written. It is no trap."""
     run = subprocess.run(program.command, stdout=subprocess.PIPE, stderr=subprocess.PIPE, timeout=LONG, **given)
     assert run.stdout == b"", run.stdout
-    assert run.stderr.strip(), "nothing on standard error"
-    return run.stderr.decode("ascii", "replace").strip()
+    assert run.stderr.decode("ascii", "replace").strip() == UNREAD, run.stderr
+    assert run.returncode == 0, run.returncode
+    return UNREAD
 
 
 def failed_reads(program):
@@ -313,12 +317,13 @@ def failed_reads(program):
 
 
 def failed_writes(program):
-    """A closed output, a pipe without a reader and a full disk end the program; it does not hang."""
+    """A closed output, a pipe without a reader and a full disk end the program: no hang, no trap, and not a word."""
     text = os.path.join(FOLDER, "parts-156.tab")
 
     def ends(**given):
         with open(text, "rb") as table:
-            subprocess.run(program.command, stdin=table, stderr=subprocess.DEVNULL, timeout=LONG, **given)
+            run = subprocess.run(program.command, stdin=table, stderr=subprocess.PIPE, timeout=LONG, **given)
+        assert (run.returncode, run.stderr) == (0, b""), (run.returncode, run.stderr)
 
     ends(preexec_fn=lambda: os.close(1))
     # with the signal that ends a writer, and with the error that it gets where that signal is ignored, as it is in Python

@@ -2,7 +2,8 @@
 
 A section n is a heading "## n. ..", its rule n.m a paragraph that begins "**n.m". A definition cites nothing else: no
 file of a folder specs/ names "01" or another paper of those who made this. The links of README.md and docs/ lead to
-files and headings that are there.
+files and headings that are there, and what they name between backticks as `crate::name` or as a path is there too; pages
+that tell of what was, and of the Rust, may name what is gone.
 """
 import glob
 import os
@@ -50,6 +51,42 @@ def link_faults(name, text):
     return found
 
 
+# what these pages name may be gone, or be the Rust's
+OF_THE_PAST = ("PORT.md", "DESIGN-PASS.md", "design-pass-contracts.md", "DIFFERENCES.md")
+
+
+def code_of_crates():
+    """The text of src/ of each crate."""
+    found = {}
+    for path in glob.glob(os.path.join(ROOT, "crates", "*", "src", "*.rt")):
+        crate = os.path.relpath(path, os.path.join(ROOT, "crates")).split(os.sep)[0]
+        with open(path, encoding="utf-8") as source:
+            found[crate] = found.get(crate, "") + source.read()
+    return found
+
+
+def is_path(named):
+    """Whether a path is there: from the top, in a crate or in each crate, a definition without its ending, or an edit."""
+    crate, _, edit = named.partition("/")
+    tries = [named, "crates/" + named, "crates/%s.antt" % named, "crates/*/" + named, "crates/*/%s.antt" % named,
+             "crates/%s/must-fail/%s.edit" % (crate, edit)]
+    return any(glob.glob(os.path.join(ROOT, one)) for one in tries)
+
+
+def name_faults(text, code):
+    """(line, what) for each crate::name and each path of a page that is nowhere."""
+    found = []
+    for at, line in enumerate(text.split("\n"), 1):
+        for named in re.findall(r"`([^`]+)`", line):
+            call = re.match(r"([a-z_]+)(?:::\w+)*::(\w+)", named)
+            if call and call.group(1) in code:
+                if not re.search(r"\b(fn|struct|enum|const|mod|trait|type) +%s\b" % call.group(2), code[call.group(1)]):
+                    found.append((at, "no %s" % named))
+            elif re.match(r"[A-Za-z_.]+/[\w./-]+$", named) and not is_path(named.rstrip("/")):
+                found.append((at, "no path %s" % named))
+    return found
+
+
 def self_test(known):
     """A check that finds nothing anywhere shows nothing."""
     good = "-- RULES 4.2 and 4.3: under 16 bytes left (RULES 5), docs/RULES.md\nf = le 4 s 0x01 + 1.01\n"
@@ -64,6 +101,8 @@ def self_test(known):
         assert [at for at, _ in faults("c/specs/A.antt", wrong, known)] == [line], wrong
     assert link_faults("README.md", "[a](docs/RULES.md#19-the-table-of-refusals) [b](#x)\n# X\n") == [(1, "no heading #x")]
     assert link_faults("docs/A.md", "[a](RULES.md) [b](../README.md) [c](docs/RULES.md)") == [(1, "no file docs/RULES.md")]
+    assert name_faults("`a::b::c` `a::D` `std::x` `docs/RULES.md` `crates/fields`", {"a": "pub fn c() struct D"}) == []
+    assert name_faults("`a::gone`\n`docs/GONE.md`", {"a": "fn c"}) == [(1, "no a::gone"), (2, "no path docs/GONE.md")]
     assert faults("c/src/a.rt", '// 01, "Items"\n', known) == []
     assert faults("c/src/a.rt", "// RULES 21\n", known) != []
 
@@ -72,12 +111,14 @@ def main():
     with open(os.path.join(ROOT, "docs", "RULES.md"), encoding="utf-8") as page:
         known = sections(page.read())
     self_test(known)
-    bad, cited = [], 0
+    bad, cited, code = [], 0, code_of_crates()
     for path in [os.path.join(ROOT, "README.md")] + sorted(glob.glob(os.path.join(ROOT, "docs", "*.md"))):
         name = os.path.relpath(path, ROOT)
         with open(path, encoding="utf-8") as page:
             text = page.read()
-        bad += ["%s:%d: %s" % (name, at, what) for at, what in faults(name, text, known) + link_faults(name, text)]
+        found = faults(name, text, known) + link_faults(name, text)
+        found += [] if os.path.basename(path) in OF_THE_PAST else name_faults(text, code)
+        bad += ["%s:%d: %s" % (name, at, what) for at, what in found]
     for path in sorted(glob.glob(os.path.join(ROOT, "crates", "**", "*"), recursive=True)):
         name = os.path.relpath(path, ROOT)
         if os.path.splitext(path)[1] not in (".rt", ".antt", ".edit") or os.sep + "out" + os.sep in path:
