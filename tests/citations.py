@@ -1,7 +1,6 @@
 """What the crates cite is there: each "RULES n" or "RULES n.m" below crates/ names a section of docs/RULES.md.
 
-A section n is a heading "## n. ..", its rule n.m a paragraph that begins "**n.m". A definition cites nothing else: no
-file of a folder specs/ names "01" or another paper of those who made this. The links of README.md and docs/ lead to
+A section n is a heading "## n. ..", its rule n.m a paragraph that begins "**n.m". The links of README.md and docs/ lead to
 files and headings that are there, and what they name between backticks as `crate::name` or as a path is there too; pages
 that tell of what was, and of the Rust, may name what is gone.
 """
@@ -14,7 +13,6 @@ ROOT = os.path.dirname(os.path.dirname(os.path.abspath(__file__)))
 
 # "RULES 4", "RULES 4.2", and more of them behind commas, dashes and "and": "RULES 7 and 8", "RULES 10.3, 10.4", "RULES 3 to 5"
 CITED = re.compile(r"\bRULES((?:(?:,| and| to|-)? ?\d+(?:\.\d+)?)+)")
-PAPER = re.compile(r"(?<![\w.])01(?![\w.])|\bdocument 01\b|\bDESIGN\b|\bRECIPES\b|\bprobes?/")
 
 
 def sections(text):
@@ -22,14 +20,12 @@ def sections(text):
     return set(re.findall(r"^## (\d+)\. ", text, re.MULTILINE)) | set(re.findall(r"^\*\*(\d+\.\d+)[ .*]", text, re.MULTILINE))
 
 
-def faults(name, text, known):
+def faults(text, known):
     """(line, what) for each fault of a file."""
-    found, spec = [], "/specs/" in "/" + name.replace(os.sep, "/")
+    found = []
     for at, line in enumerate(text.split("\n"), 1):
         for cited in CITED.findall(line):
             found += [(at, "RULES has no %s" % number) for number in re.findall(r"\d+(?:\.\d+)?", cited) if number not in known]
-        if spec and PAPER.search(line):
-            found.append((at, "a paper other than docs/RULES.md is cited"))
     return found
 
 
@@ -90,21 +86,18 @@ def name_faults(text, code):
 def self_test(known):
     """A check that finds nothing anywhere shows nothing."""
     good = "-- RULES 4.2 and 4.3: under 16 bytes left (RULES 5), docs/RULES.md\nf = le 4 s 0x01 + 1.01\n"
-    assert faults("c/specs/A.antt", good, known) == []
+    assert faults(good, known) == []
     for wrong, line in (
         (good + "-- RULES 21", 3),
         (good + "-- RULES 4.99", 3),
         (good + "-- RULES 4 and 99", 3),
-        (good + '-- 01, "Items"', 3),
-        (good + "-- document 01", 3),
     ):
-        assert [at for at, _ in faults("c/specs/A.antt", wrong, known)] == [line], wrong
+        assert [at for at, _ in faults(wrong, known)] == [line], wrong
     assert link_faults("README.md", "[a](docs/RULES.md#19-the-table-of-refusals) [b](#x)\n# X\n") == [(1, "no heading #x")]
     assert link_faults("docs/A.md", "[a](RULES.md) [b](../README.md) [c](docs/RULES.md)") == [(1, "no file docs/RULES.md")]
     assert name_faults("`a::b::c` `a::D` `std::x` `docs/RULES.md` `crates/fields`", {"a": "pub fn c() struct D"}) == []
     assert name_faults("`a::gone`\n`docs/GONE.md`", {"a": "fn c"}) == [(1, "no a::gone"), (2, "no path docs/GONE.md")]
-    assert faults("c/src/a.rt", '// 01, "Items"\n', known) == []
-    assert faults("c/src/a.rt", "// RULES 21\n", known) != []
+    assert faults("// RULES 21\n", known) != []
 
 
 def main():
@@ -116,7 +109,7 @@ def main():
         name = os.path.relpath(path, ROOT)
         with open(path, encoding="utf-8") as page:
             text = page.read()
-        found = faults(name, text, known) + link_faults(name, text)
+        found = faults(text, known) + link_faults(name, text)
         found += [] if os.path.basename(path) in OF_THE_PAST else name_faults(text, code)
         bad += ["%s:%d: %s" % (name, at, what) for at, what in found]
     for path in sorted(glob.glob(os.path.join(ROOT, "crates", "**", "*"), recursive=True)):
@@ -126,7 +119,7 @@ def main():
         with open(path, encoding="utf-8") as source:
             text = source.read()
         cited += len(CITED.findall(text))
-        bad += ["%s:%d: %s" % (name, at, what) for at, what in faults(name, text, known)]
+        bad += ["%s:%d: %s" % (name, at, what) for at, what in faults(text, known)]
     if bad:
         sys.exit("citations: %d faults\n%s" % (len(bad), "\n".join(bad)))
     print("citations: %d citations of docs/RULES.md, each of a section that is there" % cited)
