@@ -3,16 +3,20 @@
     python3 tests/cases.py [--program PATH] [--tables N]
 
 On every table of tests/cases and tests/volumes, against the listing kept beside it; on random and damaged tables, against the
-second reading (listing_reading.py), one run each; on inputs that are too long, come in pieces or cannot be read, and on
-outputs that cannot be written. --program names another program than crates/listing/out/listing.
+second reading (listing_reading.py), one run each; on inputs that are too long, come in pieces or cannot be read, on outputs
+that cannot be written, and with little memory. Every run's exit status and words are asserted. --program names another
+program than crates/listing/out/listing.
 """
 import argparse
 import collections
 import concurrent.futures
 import ctypes
+import errno
+import fcntl
 import mmap
 import os
 import random
+import resource
 import shutil
 import subprocess
 import sys
@@ -32,6 +36,16 @@ SEED = 20240618
 LONG = 20
 # A table of 64 records of 1,024 bytes is listed well under a tenth of a second.
 QUICK = 0.05
+
+# The exit status by the first word of a listing's last line, and of a run without a whole listing.
+STATUSES = {b"end": 0, b"stopped": 1, b"table": 2}
+UNREAD, UNWRITTEN = 3, 74
+# that of a loader which can't load the program
+LOADER = 127
+
+# What the program says on standard error, in one line.
+EMPTY = b"listing: the input is empty\n"
+NO_MEMORY = b"listing: out of memory; nothing is listed\n"
 
 # What the kept listings must have between them: each refusal that a listing can print (tests/cases/README.md says which cannot).
 NEEDED = {
@@ -76,20 +90,29 @@ class Program:
         with tempfile.TemporaryFile() as given:
             given.write(text)
             given.seek(0)
-            return self.on_file(given)
+            return self.on_file(given, text == b"")
 
-    def on_file(self, given):
-        return self.ended(subprocess.run(self.command, stdin=given, stdout=subprocess.PIPE, stderr=subprocess.PIPE, timeout=LONG))
+    def on_file(self, given, is_empty=False):
+        return self.ended(self.run(stdin=given), is_empty)
 
     def on_pipe(self, text):
         """The same from a pipe."""
-        return self.ended(subprocess.run(self.command, input=text, stdout=subprocess.PIPE, stderr=subprocess.PIPE, timeout=LONG))
+        return self.ended(self.run(input=text), text == b"")
 
-    def ended(self, run):
+    def run(self, **given):
         self.runs += 1
-        if run.returncode != 0 or run.stderr:
-            sys.exit("the program ended with status %d and said %r" % (run.returncode, run.stderr))
+        return subprocess.run(self.command, **{"stdout": subprocess.PIPE, **given}, stderr=subprocess.PIPE, timeout=LONG)
+
+    def ended(self, run, is_empty):
+        """The listing of a run; its exit status is what the last line says, and only an empty input has a word said of it."""
+        expected = STATUSES.get(last_line(run.stdout).split(b" ")[0]), EMPTY if is_empty else b""
+        if (run.returncode, run.stderr) != expected:
+            sys.exit("the program ended with status %d and said %r; expected %r" % (run.returncode, run.stderr, expected))
         return run.stdout
+
+
+def last_line(listing):
+    return listing[:-1].split(b"\n")[-1]
 
 
 # The folders.
@@ -243,7 +266,8 @@ def inputs(program):
     with open("/dev/zero", "rb") as endless:
         assert program.on_file(endless) == refused
     with open("/dev/null", "rb") as nothing:
-        assert program.on_file(nothing) == refused
+        assert program.on_file(nothing, is_empty=True) == refused
+    assert program.on_pipe(b"") == refused
     # a pipe gives what it has: one byte, or a few, at a time
     for text, size, expected in ((whole, 1, WHOLE), (longest, 4001, read(FOLDER, "length-65536.txt")), (longest + b"\0", 65536, refused)):
         run = subprocess.Popen(program.command, stdin=subprocess.PIPE, stdout=subprocess.PIPE)
@@ -253,6 +277,7 @@ def inputs(program):
             time.sleep(0.001)
         found = run.communicate(timeout=LONG)[0]
         assert difference(expected, found) is None, size
+        assert run.returncode == STATUSES[last_line(expected).split(b" ")[0]], (run.returncode, size)
 
 
 def quick(program):
@@ -273,22 +298,21 @@ def quick(program):
 
 # What cannot be read or written.
 
-UNREAD = "listing: standard input could not be read to its end; nothing is listed"
+def system_words(number):
+    return "%s (os error %d)" % (os.strerror(number), number)
 
 
-def no_listing(program, **given):
-    """A failed read says so on standard error, in these words, and no line of a listing is written. It is no trap."""
-    run = subprocess.run(program.command, stdout=subprocess.PIPE, stderr=subprocess.PIPE, timeout=LONG, **given)
-    assert run.stdout == b"", run.stdout
-    assert run.stderr.decode("ascii", "replace").strip() == UNREAD, run.stderr
-    assert run.returncode == 0, run.returncode
-    return UNREAD
+def unread(program, number, **given):
+    """A failed read is told in the system's words, and no line of a listing is written."""
+    run = program.run(**given)
+    said = "listing: the input could not be read: %s; nothing is listed\n" % system_words(number)
+    assert (run.returncode, run.stdout, run.stderr) == (UNREAD, b"", said.encode()), run
 
 
 def failed_reads(program):
-    said = [no_listing(program, preexec_fn=lambda: os.close(0))]
+    unread(program, errno.EBADF, preexec_fn=lambda: os.close(0))
     folder = os.open("/", os.O_RDONLY)
-    said.append(no_listing(program, stdin=folder))
+    unread(program, errno.EISDIR, stdin=folder)
     os.close(folder)
     # Linux: a process's own memory, read as a file, fails with EIO where nothing is mapped. So a whole table can stand in
     # front of the place that fails, as on a worn disk: it must not be taken for the whole input.
@@ -305,35 +329,93 @@ def failed_reads(program):
     assert os.read(memory, 2 * len(whole)) == whole
     try:
         os.read(memory, 1)
-    except OSError:
-        pass
+    except OSError as failed:
+        assert failed.errno == errno.EIO
     else:
         sys.exit("the input that is to fail does not")
     os.lseek(memory, at + page - len(whole), os.SEEK_SET)
-    said.append(no_listing(program, stdin=memory))
+    unread(program, errno.EIO, stdin=memory)
     os.close(memory)
     libc.munmap(at, page)
-    return sorted(set(said))
+
+
+# A listing of more than one write, which writes to a small pipe or a small file must cut: an attribute of 24 bytes has a line
+# of some 60.
+LONG_TABLE = listing_cases.of(*(listing_cases.plain(instance=65000 + k) for k in range(165)), size=4096)
+FIRST_WRITE = 8192
+
+
+def unwritten(program, text, said, **given):
+    """A failed write is told in these words, or in none. It is no hang and no trap."""
+    run = program.run(input=text, **given)
+    words = "listing: the listing could not be written: %s\n" % said if said else ""
+    assert (run.returncode, run.stderr) == (UNWRITTEN, words.encode()), run
 
 
 def failed_writes(program):
-    """A closed output, a pipe without a reader and a full disk end the program: no hang, no trap, and not a word."""
-    text = os.path.join(FOLDER, "parts-156.tab")
-
-    def ends(**given):
-        with open(text, "rb") as table:
-            run = subprocess.run(program.command, stdin=table, stderr=subprocess.PIPE, timeout=LONG, **given)
-        assert (run.returncode, run.stderr) == (0, b""), (run.returncode, run.stderr)
-
-    ends(preexec_fn=lambda: os.close(1))
+    text = read(FOLDER, "parts-156.tab")
+    unwritten(program, text, system_words(errno.EBADF), preexec_fn=lambda: os.close(1))
+    with open("/dev/full", "wb") as full:
+        unwritten(program, text, system_words(errno.ENOSPC), stdout=full)
     # with the signal that ends a writer, and with the error that it gets where that signal is ignored, as it is in Python
     for restored in (True, False):
         reader, writer = os.pipe()
         os.close(reader)
-        ends(stdout=writer, restore_signals=restored)
+        unwritten(program, text, None, stdout=writer, restore_signals=restored)
         os.close(writer)
-    with open("/dev/full", "wb") as full:
-        ends(stdout=full)
+
+
+def front_written(program):
+    """Where a write fails in mid-stream, what stands there is a front of the listing, and the status says that it is no more."""
+    whole = listing_reading.listing(LONG_TABLE)
+    assert program.on(LONG_TABLE) == whole and len(whole) > FIRST_WRITE + 500
+    for room in (1, FIRST_WRITE - 1, FIRST_WRITE, FIRST_WRITE + 1, len(whole) - 1):
+        with tempfile.TemporaryFile() as out:
+            # the signal for a file that grows too large stays ignored, as it is in Python, so that the write fails
+            unwritten(program, LONG_TABLE, system_words(errno.EFBIG), stdout=out, restore_signals=False,
+                      preexec_fn=lambda: resource.setrlimit(resource.RLIMIT_FSIZE, (room, room)))
+            out.seek(0)
+            assert out.read() == whole[:room], room
+    # a reader that has seen enough closes its pipe, in whose smallest form there is no room for a whole listing
+    reader, writer = os.pipe()
+    assert fcntl.fcntl(writer, fcntl.F_SETPIPE_SZ, mmap.PAGESIZE) < FIRST_WRITE
+    with tempfile.TemporaryFile() as given:
+        given.write(LONG_TABLE)
+        given.seek(0)
+        run = subprocess.Popen(program.command, stdin=given, stdout=writer, stderr=subprocess.PIPE)
+        os.close(writer)
+        assert os.read(reader, 100) == whole[:100]
+        os.close(reader)
+        assert (run.communicate(timeout=LONG)[1], run.returncode) == (b"", UNWRITTEN), run.returncode
+
+
+def little_memory(program):
+    """With more and more address space, page by page: the system can't load the program, the loader can't, it is out of memory
+    in its own words, and it lists the whole. No step goes back, so it never ends in another way once it runs."""
+    longest, whole = read(FOLDER, "length-65536.tab"), read(FOLDER, "length-65536.txt")
+    fine = STATUSES[last_line(whole).split(b" ")[0]], whole, b""
+
+    def stage(limit):
+        try:
+            run = program.run(input=longest, preexec_fn=lambda: resource.setrlimit(resource.RLIMIT_AS, (limit, limit)))
+        except OSError:
+            return 0
+        if run.returncode < 0:
+            return 0
+        if (run.returncode, run.stdout) == (LOADER, b""):
+            return 1
+        found = run.returncode, run.stdout, run.stderr
+        assert found in ((UNREAD, b"", NO_MEMORY), fine), (limit, found)
+        return 2 + (found == fine)
+
+    pages, last = [0] * 4, 0
+    while pages[3] < 64:
+        reached = stage(sum(pages) * mmap.PAGESIZE)
+        assert reached >= last, (pages, reached, last)
+        pages[reached] += 1
+        last = reached
+    assert all(pages), pages
+    return pages[2]
 
 
 def main():
@@ -352,10 +434,14 @@ def main():
     print("listing: %d tables, %d lines, %d kinds of refusal, as kept" % (len(cases), sum(c[1].count(b"\n") for c in cases.values()), len(count)))
     notices(program, cases)
     inputs(program)
-    said = failed_reads(program)
+    failed_reads(program)
     failed_writes(program)
+    front_written(program)
+    # an emulator's memory is not the program's
+    if len(program.command) == 1:
+        print("listing: out of memory, in its words, with %d different limits" % little_memory(program))
     took = quick(program)
-    print("listing: %s; an input that fails: %s" % (", ".join("%s %.1f ms" % (name, 1000 * s) for name, s in took.items()), "; ".join(said)))
+    print("listing: %s" % ", ".join("%s %.1f ms" % (name, 1000 * s) for name, s in took.items()))
     real = [cases[name][0] for name in (*listing_cases.VOLUMES, *listing_cases.OTHERS)]
     seen = random_ones(program, given.tables, real)
     print("listing: %d random and damaged tables of seed %d, %d of them to the end; %d runs, %.0f seconds" % (

@@ -9,6 +9,8 @@ import os
 import re
 import sys
 
+import lib  # which ends a run under -O: the checks' own tests are asserts
+
 ROOT = os.path.dirname(os.path.dirname(os.path.abspath(__file__)))
 
 # "RULES 4", "RULES 4.2", and more of them behind commas, dashes and "and": "RULES 7 and 8", "RULES 10.3, 10.4", "RULES 3 to 5"

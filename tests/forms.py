@@ -7,6 +7,8 @@ import os
 import re
 import sys
 
+import lib  # which ends a run under -O: the checks' own tests are asserts
+
 ROOT = os.path.dirname(os.path.dirname(os.path.abspath(__file__)))
 
 
@@ -55,7 +57,7 @@ FORMS = [
     ("the parts hand it", "crates/parts/src/lib.rt", r"fn fill_inside\(", [r"&file\.base\.bytes\[at\.from\.\.at\.to\]", r"list::header\(rest,"]),
     ("a lookup borrows a slice from one of two lent ones, its view stated", "crates/items/src/lib.rt",
      r"fn held\(&self, wanted: RecordNumber\) -> Option<&'a \[u8\]>",
-     [r"seen result ≡ held_in self\.now wanted", r"if wanted == self\.base\.number", r"self\.base\.bytes", r"self\.table\.get\(wanted\)"]),
+     [r"option_copied result ≡ of_file held_by self\.now wanted", r"if wanted == self\.base\.number", r"self\.base\.bytes", r"self\.table\.get\(wanted\)"]),
     ("a name in 510 bytes", "crates/list/src/lib.rt", r"pub const MOST_NAME: usize = 510;", None),
     ("its first bytes are filled, the rest is proved zero", "crates/list/src/lib.rt", r"fn name_of\(",
      [r"result ≡ name_of rest\.now n", r"\[0; MOST_NAME\]", r"name\[0\.\.n\]\.copy_from_slice\("]),

@@ -6,8 +6,10 @@ import re
 import struct
 from typing import NamedTuple
 
-import walk_cases
-from walk_cases import END, entry, head, list_of, record, table
+from lib import building
+from lib.building import END, entry, head, list_of, record, table
+from lib.damaging import damaged
+from lib.random_tables import chained_table, large_table, random_table
 
 BASE, OTHER, THIRD, FOURTH = 40, 41, 42, 43
 MOST = 65536
@@ -40,15 +42,13 @@ OTHERS = (
 
 def stream(instance=1, length=64, runs=64, lowest=0, size=4000, ty=0x80, units=0, name=0):
     """A non-resident attribute. What does not fit into its length is left off."""
-    text = head(ty, length, False, instance, units, name)
-    text += struct.pack("<QQHHIQQQ", lowest, 9, runs, 0, 0, 4096, size, size)
-    return text.ljust(length, b"\x11")[:length]
+    return building.non_resident(
+        ty, instance, length, lowest, runs, size=size, fill=b"\x11", cut=True, units=units, name=name)
 
 
 def plain(instance=0, length=24, count=0, value=24, ty=0x10, units=0, name=0):
     """A resident attribute with a name."""
-    text = head(ty, length, True, instance, units, name) + struct.pack("<IHH", count, value, 0)
-    return text.ljust(length, b"\xAA")[:length]
+    return building.resident(ty, instance, length, count, value, cut=True, units=units, name=name)
 
 
 def bare(ty, length, instance=0, is_resident=True):
@@ -305,6 +305,13 @@ def most():
     others = {OTHER + k: record(4096, *held) for k, held in enumerate(others)}
     yield Case("parts-156", table({BASE: bytes(r), **others}), "as many parts as fit at all", "end reads 548", (
         "record 40 size 4096", "attr 41 56 128 64 1 name 0 0 value parts 156 size 4000", "part 41 56 1 120 0", "part 42 80 2 144 0"))
+    # Instances in turn, so that each entry is an item with one part, which the next one ends: more text than goes to one write.
+    # The list 1; the walk's 154 entries, and as many parts, 77 each with one attribute and 77 with two; 153 that end parts.
+    two = [[stream(1, lowest=FIELD_MOST, size=FIELD_MOST), stream(2, lowest=FIELD_MOST, size=FIELD_MOST)]]
+    yield Case("many-lines", of(list_of(*(to(instance=1 + k % 2) for k in range(154))), size=4096, others=two),
+               "a listing of more than 16,384 bytes", "end reads %d" % (1 + 2 * (154 + 77 * 3) + 153), (
+                   "attr 41 56 128 64 1 name 0 0 value parts 1 size 18446744073709551615", "part 41 56 18446744073709551615 120 0",
+                   "attr 41 120 128 64 2 name 0 0 value parts 1 size 18446744073709551615", "part 41 120 18446744073709551615 184 0"))
     # Lengths of four digits, names of three, record numbers of fifteen, VCNs and sizes of twenty. The longest line of all has
     # a name refused.
     long = {
@@ -331,6 +338,40 @@ def most():
     lot = record(4096, *[bare(0x10, 16)] * 248, stream())
     yield Case("reads", table({BASE: record(4096, list_of(*[to()] * 154)), OTHER: lot}), "parts that are each found behind 248 attributes",
                "end reads %d" % (1 + 1 + 249 + 154 * 250 + 153), ("attr 41 4024 128 64 1 name 0 0 value parts 154 size 4000",))
+    # As near as we came to the most that a listing can read (docs/RULES.md, 17.4): of 1,024 bytes 5,001 of 5,173. Each entry is
+    # an item of its own, found behind nearly all other attributes of its record, by the walk and again by its parts.
+    for size, entries, spare, found in ((1024, 39, 4, 63), (4096, 157, 8, 255)):
+        # an attribute and an entry, two searches, and the entry again; every second search is one shorter but for the spare ones
+        reads = entries * (3 + 2 * found) - 2 * (entries // 2 - spare)
+        yield Case("reads-%d" % size, reads_most(size, entries, spare), "the most reads that we found for this size", "end reads %d" % reads, (
+            "record 40 size %d" % size, "attr 26 %d 32 16 1 name 0 0 value parts 0 refused 7" % (size - 24),
+            "attr 27 %d 32 16 2 name 0 0 value parts 0 refused 7" % (size - 24),
+            "attr 26 %d 32 16 1 name 0 0 value parts 0 refused 7" % (size - 24),
+            "attr 26 %d 32 16 2 name 0 0 value parts 0 refused 7" % (size - 40)))
+
+
+def reads_most(size, entries, spare):
+    """A record of lists of one entry each, and the two records that they name.
+
+    A list lies over its own attribute from byte 0 on, so that its entry is the attribute: the entry's type is 0x20, its lowest
+    VCN the attribute's first fields, and its record number the value's length, 26, and offset, 0. An entry of 27 bytes names
+    record 27: so many are spare. Attributes are as short as they can be, so that the parts refuse the one found by 7,
+    behind the search. Entries of two instances in turn, or the skip key would pass over them.
+    """
+    # the first attribute stands at 6, so that its instance is the first attribute offset
+    text = bytearray(b"FILE\0\0")
+    for k in range(entries):
+        length = 27 if k % 2 and k < 2 * spare else 26
+        text += struct.pack("<IHBBQQH", 0x20, length, 0, 0, 0, length, 1 + k % 2).ljust(length, b"\0")
+    text[20:22] = struct.pack("<H", 6)
+    assert len(text) == size
+    records = {BASE: bytes(text)}
+    for number, instances in ((26, (2, 1)), (27, (2,))):
+        # the first one's flags are the first attribute offset
+        held = head(0x10, 16, flags=8) + bare(0x10, 16) * ((size - 8) // 16 - 1 - len(instances))
+        held += b"".join(bare(0x20, 16, instance, is_resident=False) for instance in instances)
+        records[number] = record(size, held, first=8, end=b"")
+    return table(records, BASE)
 
 
 def records_64():
@@ -405,18 +446,18 @@ def random_tables(count, real, chance):
         if what < 6:
             text = random_listed(chance)
         elif what < 9:
-            text = walk_cases.damaged(chance.choice(small), chance)
+            text = damaged(chance.choice(small), chance)
         elif what < 11:
-            text = walk_cases.damaged(random_listed(chance), chance)
+            text = damaged(random_listed(chance), chance)
         elif what < 13:
-            text = walk_cases.random_table(chance)
+            text = random_table(chance)
         elif what < 15:
-            text = walk_cases.chained_table(chance)
+            text = chained_table(chance)
         elif k % 5 == 0:
-            text = walk_cases.large_table(chance)
+            text = large_table(chance)
         else:
             # a table whose header or rows are hurt, or which is cut
-            text = bytearray(walk_cases.random_table(chance))
+            text = bytearray(random_table(chance))
             if chance.random() < 0.3:
                 text = text[:chance.randrange(len(text))]
             else:

@@ -12,6 +12,7 @@ import os
 import re
 import sys
 
+import lib  # which ends a run under -O: the checks' own tests are asserts
 import public
 
 ROOT = public.ROOT

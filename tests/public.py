@@ -10,6 +10,8 @@ import os
 import re
 import sys
 
+import lib  # which ends a run under -O: the checks' own tests are asserts
+
 ROOT = os.path.dirname(os.path.dirname(os.path.abspath(__file__)))
 
 # the calls that ask something of their callers, and why no type carries it

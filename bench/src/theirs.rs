@@ -129,7 +129,8 @@ fn refusal(e: &NtfsError, size: usize) -> u64 {
     }
 }
 
-/// Text in a buffer that is used again. Numbers are printed by the same steps as ours, so that what is compared is the walk.
+/// Text in a buffer that is used again. Numbers of up to four digits are printed by the same steps as ours, longer ones much like it, so
+/// that what is compared is the walk.
 pub struct Text {
     bytes: Vec<u8>,
     end: usize,

@@ -2,6 +2,7 @@
 // compare the answers with a second reading of the rules.
 #![tactic(auto)]
 
+mod in_listing;
 mod in_record;
 mod in_table;
 mod in_walk;
@@ -38,7 +39,7 @@ fn answer_on_record<W: Write>(out: &mut W, q: &Question<'_>) -> io::Result<()> {
     }
 }
 
-// Those on entries, tables and walks. A kind that there is not has no answer.
+// Those on entries, tables, walks and listings. A kind that there is not has no answer.
 fn answer_on_file<W: Write>(out: &mut W, q: &Question<'_>) -> io::Result<()> {
     match q.kind {
         16 => line(out, &in_table::entry(q)),
@@ -55,6 +56,8 @@ fn answer_on_file<W: Write>(out: &mut W, q: &Question<'_>) -> io::Result<()> {
         27 => in_walk::parts(out, q),
         28 => in_walk::parts_within(out, q),
         29 => in_walk::walk(out, q, true),
+        30 => in_listing::page(out, q),
+        31 => in_listing::written(out, q),
         _ => Ok(()),
     }
 }

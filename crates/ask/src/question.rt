@@ -1,5 +1,7 @@
-//! Questions, as they come on standard input: a head of 59 bytes, all numbers little-endian, then as many bytes
-//! of a record and of a table as the head says.
+//! Questions, as they come on standard input: a byte for what is asked, a byte for how many numbers come with it,
+//! each number as a byte for its tag and eight for its value, little-endian; then the bytes of the record and those
+//! of the table, as many as two of the numbers say. A number that does not come is 0. So a call that asks for more
+//! takes a new tag, behind the others, and no other question changes.
 use fields::RecordNumber;
 use fields::bytes::{u16_at, u32_at, u64_at};
 use items::{Key, Rest, State};
@@ -7,15 +9,45 @@ use std::alloc::{AllocError, Global};
 use std::io;
 use std::io::{ErrorKind, Read};
 
-const HEAD: usize = 59;
+// What is asked, and how many numbers come.
+const HEAD: usize = 2;
+
+// Where each number is kept, eight bytes for each in the order of the tags: that of tag 0 first.
+const NUMBER: usize = 0;
+
+const PLACE: usize = 8;
+
+const WANTED: usize = 16;
+
+const LIST: usize = 24;
+
+const LIST_FROM: usize = 32;
+
+const LIST_TO: usize = 40;
+
+const KEY: usize = 48;
+
+const TYPE: usize = 56;
+
+const INSTANCE: usize = 64;
+
+const MOST: usize = 72;
+
+const RECORD_BYTES: usize = 80;
+
+const TABLE_BYTES: usize = 88;
+
+const BUFFER: usize = 96;
+
+const NUMBERS: usize = 104;
 
 /// How many bytes the record and the table may have together.
 const ROOM: usize = 131_072;
 
 /// A question, for every call that there is: each reads what it needs. A state has the place as its raw place,
 /// the list and the key; `ty` and `instance` stand beside a key, since other calls ask for them too. `most` is
-/// how many calls a walk makes, or the room for parts. The record is, for an entry, the rest of a list. The
-/// kind is the byte that came: `main` has the kinds.
+/// how many calls a walk makes, or the room for parts; `buffer` the room for a listing's text. The record is, for
+/// an entry, the rest of a list. The kind is the byte that came: `main` has the kinds.
 #[derive(Clone, Copy)]
 pub struct Question<'a> {
     pub kind: u8,
@@ -27,29 +59,31 @@ pub struct Question<'a> {
     pub ty: u32,
     pub instance: u16,
     pub most: u16,
+    pub buffer: usize,
     pub record: &'a [u8],
     pub table: &'a [u8],
 }
 
 impl<'a> Question<'a> {
-    fn of(head: &[u8; HEAD], record: &'a [u8], table: &'a [u8]) -> Question<'a> {
-        let ty = u32_at(head, 43);
-        let instance = u16_at(head, 47);
+    fn of(kind: u8, numbers: &[u8; NUMBERS], record: &'a [u8], table: &'a [u8]) -> Question<'a> {
+        let ty = u32_at(numbers, TYPE);
+        let instance = u16_at(numbers, INSTANCE);
         let rest = Rest {
-            from: u64_at(head, 26) as usize,
-            to: u64_at(head, 34) as usize,
+            from: u64_at(numbers, LIST_FROM) as usize,
+            to: u64_at(numbers, LIST_TO) as usize,
         };
         let key = Key { ty, instance };
         Question {
-            kind: head[0],
-            number: RecordNumber(u64_at(head, 1)),
-            place: u64_at(head, 9) as usize,
-            wanted: RecordNumber(u64_at(head, 17)),
-            list: if head[25] != 0 { Some(rest) } else { None },
-            key: if head[42] != 0 { Some(key) } else { None },
+            kind,
+            number: RecordNumber(u64_at(numbers, NUMBER)),
+            place: u64_at(numbers, PLACE) as usize,
+            wanted: RecordNumber(u64_at(numbers, WANTED)),
+            list: if numbers[LIST] != 0 { Some(rest) } else { None },
+            key: if numbers[KEY] != 0 { Some(key) } else { None },
             ty,
             instance,
-            most: u16_at(head, 49),
+            most: u16_at(numbers, MOST),
+            buffer: u64_at(numbers, BUFFER) as usize,
             record,
             table,
         }
@@ -70,17 +104,33 @@ pub fn room(alloc: Global) -> Result<Vec<u8>, AllocError> {
     vec![in alloc; 0; ROOM]
 }
 
+// So many numbers, each at its place. A tag that there is not is an error.
+fn numbers<R: Read>(input: &mut R, count: u8) -> io::Result<[u8; NUMBERS]> {
+    let mut given = [0u8; NUMBERS];
+    for _ in 0..count {
+        let mut tag = [0u8; 1];
+        input.read_exact(&mut tag)?;
+        let at = 8 * usize::from(tag[0]);
+        let Some(number) = given.get_mut(at..at + 8) else {
+            return Err(io::Error::from(ErrorKind::InvalidData));
+        };
+        input.read_exact(number)?;
+    }
+    Ok(given)
+}
+
 /// The next question, its bytes put at the front of the buffer. An input that ends here is an error, and so is
 /// a question that is cut or has no room.
 pub fn read<'a, R: Read>(input: &mut R, space: &'a mut [u8]) -> io::Result<Question<'a>> {
     let mut head = [0u8; HEAD];
     input.read_exact(&mut head)?;
-    let record = u32_at(&head, 51) as usize;
-    let table = u32_at(&head, 55) as usize;
-    let Some(given) = space.get_mut(..record + table) else {
+    let given = numbers(input, head[1])?;
+    let record = u32_at(&given, RECORD_BYTES) as usize;
+    let table = u32_at(&given, TABLE_BYTES) as usize;
+    let Some(bytes) = space.get_mut(..record + table) else {
         return Err(io::Error::from(ErrorKind::InvalidData));
     };
-    input.read_exact(given)?;
-    let (record, table) = given.split_at(record);
-    Ok(Question::of(&head, record, table))
+    input.read_exact(bytes)?;
+    let (record, table) = bytes.split_at(record);
+    Ok(Question::of(head[0], &given, record, table))
 }

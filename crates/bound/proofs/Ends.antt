@@ -13,6 +13,18 @@ use Rattle.items.proofs.Falls.{falls}
 use Rattle.bound.proofs.Runs.{counted, stands, read_by, no_later}
 
 module _ (s : List ℕ) (n : RecordNumber) (look : RecordNumber → Option (List ℕ)) (room : ℕ → ℕ) where
+  -- a listing that stops is a whole one
+  abbrev pub stopping : (k c : ℕ) (read : List Read) (w : State) → Listed s n look room k c read w
+      → ((i : Item) → (called s n look room w).answer ≡ gives i → ⊥) → Whole s n look room
+  stopping k c read w l stop = record {
+    items = k;
+    count = c;
+    read = read;
+    last = w;
+    listed = l;
+    stops = stop;
+  }
+
   record Soon : Type 0 where
     whole : Whole s n look room
     soon : whole.items ≤ weight (length s) (fresh_of s)
@@ -28,30 +40,10 @@ module _ (s : List ℕ) (n : RecordNumber) (look : RecordNumber → Option (List
   to-next fuel k c read w l h y on (gives i) e =
       let g = falls s n look w i e in on (suc k) _ _ (called s n look room w).left (item k c read w i l e)
       (omega arith) (omega arith)
-  to-next fuel k c read w l h y on ends e = record {
-    whole = record {
-      items = k;
-      count = c;
-      read = read;
-      last = w;
-      listed = l;
-      stops = λ i q. let d = sym e
-          ∙ q in absurd (cc);
-    };
-    soon = omega arith;
-  }
-  to-next fuel k c read w l h y on (refuses r) e = record {
-    whole = record {
-      items = k;
-      count = c;
-      read = read;
-      last = w;
-      listed = l;
-      stops = λ i q. let d = sym e
-          ∙ q in absurd (cc);
-    };
-    soon = omega arith;
-  }
+  to-next fuel k c read w l h y on ends e =
+      record { whole = stopping k c read w l (λ i q. let d = sym e ∙ q in absurd (cc)); soon = omega arith }
+  to-next fuel k c read w l h y on (refuses r) e =
+      record { whole = stopping k c read w l (λ i q. let d = sym e ∙ q in absurd (cc)); soon = omega arith }
 
   to-end : (fuel k c : ℕ) (read : List Read) (w : State) → Listed s n look room k c read w
       → weight (length s) w ≤ fuel → Light k w → Soon

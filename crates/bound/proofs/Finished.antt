@@ -1,5 +1,5 @@
 -- A list whose entries are none left is read to its end.
-use Rattle.std.proofs.Common.{ℕ, ◌≡◌, List, [], ◌∷◌, refl, sym, ◌∙◌}
+use Rattle.std.proofs.Common.{ℕ, ◌≡◌, List, [], refl, sym, ◌∙◌}
 use Rattle.std.specs.Prelude.{Option}
 use Rattle.fields.specs.Answer.{Answer, gives, ends, refuses}
 use Rattle.fields.specs.declared.RecordNumber.{RecordNumber}
@@ -24,12 +24,3 @@ module _ (s : List ℕ) (n : RecordNumber) (look : RecordNumber → Option (List
 
     pub none_left : [] ≡ entries_of s n to from → Done s n look (list_at from to)
     none_left i = by-none _ refl i
-
-    by-end : (es : List (Answer Entry)) (a : Answer Entry) → entry_of (rest_of s (list_at from to)) n from ≡ a
-        → ends ∷ es ≡ entries_of s n to from → a ≡ ends
-    by-end es (gives e) q i = let t = i ∙ first_entry s n (list_at from to) e (sym q) in absurd (cc)
-    by-end es ends q i = refl
-    by-end es (refuses r) q i = let t = i ∙ bad_entry s n (list_at from to) r (sym q) in absurd (cc)
-
-    pub end_left : (es : List (Answer Entry)) → ends ∷ es ≡ entries_of s n to from → Done s n look (list_at from to)
-    end_left es i = by-end es _ refl i

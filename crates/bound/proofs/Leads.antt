@@ -2,7 +2,7 @@
 use Rattle.std.proofs.Common.{ℕ, ◌+◌, ◌-◌, ◌≡◌, List, [], ◌∷◌, ◌++◌, map, length, eqb, ltb, refl}
 use Rattle.std.specs.Prelude.{Option, Some, None}
 use Rattle.std.specs.List.{AllByRecursion}
-use Rattle.fields.specs.Answer.{Answer, gives, ends, refuses, ◌⟫◌}
+use Rattle.fields.specs.Answer.{gives, refuses, ◌⟫◌, Outcome}
 use Rattle.fields.specs.Known.{known_type}
 use Rattle.fields.specs.declared.RecordNumber.{RecordNumber}
 use Rattle.fields.proofs.Cases.{both}
@@ -19,7 +19,7 @@ use Rattle.parts.specs.Part.{part_in, part_of}
 use Rattle.parts.specs.Parts.{Given, Parts, reading, giving, parts_by, parts_from, parts_in, parts_of}
 use Rattle.parts.specs.declared.Part.{Part}
 use Rattle.bound.specs.Replay.{Fronts}
-use Rattle.bound.specs.Listing.{Leads, EveryPart}
+use Rattle.bound.specs.Listing.{Leads}
 use Rattle.bound.proofs.Members.{head, tail, deeper, wider, mapped}
 use Rattle.bound.proofs.Found.{found_among}
 use Rattle.items.proofs.Peel.{peel}
@@ -56,7 +56,7 @@ module _ (s : List ℕ) (n : RecordNumber) (look : RecordNumber → Option (List
       let k = back (sought_of s n look e from).answer (λ h. lookup_of s n look e.file from ⟫ λ t. part_in e t h) v q in
       (k.first, k.gave)
 
-  giving-led : (to from : ℕ) (e : Entry) → Fronts s n look (list_at from to) e → (a : Answer Part)
+  giving-led : (to from : ℕ) (e : Entry) → Fronts s n look (list_at from to) e → (a : Outcome Part)
       → part_of s n look e from ≡ a → (p : Parts) → Led to p
       → Led to (reading (joined from e ∷ []) (reading (Searched e from) (giving from a p)))
   unfolding giving
@@ -76,14 +76,12 @@ module _ (s : List ℕ) (n : RecordNumber) (look : RecordNumber → Option (List
         },
         more to (joined from e ∷ rs) p.reads p.given l,
       )
-  giving-led to from e t ends q p l = tt
   giving-led to from e t (refuses r) q p l = tt
 
-  by-led : (to : ℕ) (key : Key) (room : ℕ) (es : List (Answer Entry)) (from : ℕ) → es ≡ entries_of s n to from
+  by-led : (to : ℕ) (key : Key) (room : ℕ) (es : List (Outcome Entry)) (from : ℕ) → es ≡ entries_of s n to from
       → Led to (parts_by s n look key room es from)
   unfolding parts_by
   by-led to key room [] from q = tt
-  by-led to key room (ends ∷ es) from q = tt
   by-led to key room (refuses r ∷ es) from q = tt
   by-led to key room (gives e ∷ es) from q =
       let k = peel s n to from e es q in
@@ -100,13 +98,16 @@ module _ (s : List ℕ) (n : RecordNumber) (look : RecordNumber → Option (List
       tt)
       tt
 
-  from-led : (to room : ℕ) (es : List (Answer Entry)) (from : ℕ) → es ≡ entries_of s n to from
+  from-led : (to room : ℕ) (es : List (Outcome Entry)) (from : ℕ) → es ≡ entries_of s n to from
       → Led to (parts_from s n look room es from)
   unfolding parts_from
   from-led to room [] from q = tt
-  from-led to room (ends ∷ es) from q = tt
   from-led to room (refuses r ∷ es) from q = tt
   from-led to room (gives e ∷ es) from q = by-led to (key_of e) room (gives e ∷ es) from q
+
+  pub list-led : (room : ℕ) (l : Rest) → Led l.to (parts_in s n look room (Some l))
+  unfolding parts_in
+  list-led room l = from-led l.to room (entries_of s n l.to l.from) l.from refl
 
   -- of the parts that a call gives for a list
   abbrev pub LedBy : Option Rest → List Read → List Given → Type 0
@@ -119,7 +120,3 @@ module _ (s : List ℕ) (n : RecordNumber) (look : RecordNumber → Option (List
   asked-led room None = refl
   asked-led room (Some l) = both (Led l.to) (lies_in (length s) (Some l)) _ _
       (from-led l.to room (entries_of s n l.to l.from) l.from refl) tt
-
-pub every_part : EveryPart
-unfolding parts_in
-every_part s n look room l = from-led s n look l.to room (entries_of s n l.to l.from) l.from refl

@@ -8,15 +8,18 @@ mod Before
 mod Stretch
 mod Pays
 mod Leads
+mod Stopped
 mod Finished
 mod Replays
 mod Runs
+mod Owns
 mod Begun
 mod Paid
 mod Ends
 mod Tables
 mod Lists
 mod Calls
+mod Bytes
 pub mod Sofar
 mod Openings
 mod Printed

@@ -6,7 +6,7 @@ use native.Mathlib.Nat.{le_refl}
 use Rattle.std.proofs.lemmas.Bool.{eqb-true}
 use Rattle.std.specs.Prelude.{Option, Some, None}
 use Rattle.std.specs.List.{Contains}
-use Rattle.fields.specs.Answer.{Answer, gives, ends, refuses}
+use Rattle.fields.specs.Answer.{gives, refuses, Outcome}
 use Rattle.fields.specs.Known.{known_type, attribute_list}
 use Rattle.fields.specs.declared.RecordNumber.{RecordNumber}
 use Rattle.fields.proofs.Cases.{both}
@@ -28,7 +28,7 @@ use Rattle.items.specs.declared.walk.State.{State}
 use Rattle.items.proofs.Steps.{entry_moves}
 use Rattle.bound.specs.Listing.{own_of, called, Follow}
 use Rattle.bound.specs.Lists.{RestOf, Held, end_of, OpenedBy, EveryStep, EveryRead, EveryEntry}
-use Rattle.bound.specs.Replay.{Heads, opened, start, list_of, Done, Fronts, Stands, behind, Replay}
+use Rattle.bound.specs.Replay.{Heads, opened, no_list, start, list_of, Done, Fronts, Stands, behind, Replay}
 use Rattle.bound.proofs.Stretch.{by-test}
 use Rattle.bound.proofs.Finished.{none_done}
 use Rattle.bound.proofs.Members.{head, tail, none, uncons}
@@ -78,10 +78,9 @@ closed : (raw : ℕ) (key : Option Key) → Held (state raw None key) (state raw
 closed raw key = inr (refl, λ m q. absurd (cc))
 
 module _ (s : List ℕ) (n : RecordNumber) (look : RecordNumber → Option (List ℕ)) where
-  held-item : (raw from to : ℕ) (e : Entry) (key : Option Key) (a : Answer Attribute)
+  held-item : (raw from to : ℕ) (e : Entry) (key : Option Key) (a : Outcome Attribute)
       → Held (state raw (Some (list_at from to)) key) (item_by raw from to e a).left
   unfolding item_by
-  held-item raw from to e key ends = further raw to from (from + e.length) key None (omega arith)
   held-item raw from to e key (refuses r) = further raw to from (from + e.length) key None (omega arith)
   held-item raw from to e key (gives h) =
       both (λ (l : Left). Held (state raw (Some (list_at from to)) key) l.left) h.resident _ _
@@ -89,11 +88,10 @@ module _ (s : List ℕ) (n : RecordNumber) (look : RecordNumber → Option (List
       (further raw to from (from + e.length) key (Some (key_of e)) (omega arith))
 
   held-entries : (raw to : ℕ) (on : Option Key → Left) → ((key : Option Key)
-      → Held (state raw None key) (on key).left) → (es : List (Answer Entry)) (from : ℕ) (key : Option Key)
+      → Held (state raw None key) (on key).left) → (es : List (Outcome Entry)) (from : ℕ) (key : Option Key)
       → Held (state raw (Some (list_at from to)) key) (by_entries s n look on raw to es from key).left
   unfolding by_entries
   held-entries raw to on c [] from key = weaker raw (Some (list_at from to)) key key (on key).left (c key)
-  held-entries raw to on c (ends ∷ es) from key = weaker raw (Some (list_at from to)) key key (on key).left (c key)
   held-entries raw to on c (refuses r ∷ es) from key = further raw to from from key key (omega arith)
   held-entries raw to on c (gives e ∷ es) from key =
       let P = λ (l : Left). Held (state raw (Some (list_at from to)) key) l.left in
@@ -105,10 +103,9 @@ module _ (s : List ℕ) (n : RecordNumber) (look : RecordNumber → Option (List
       (further raw to from (from + e.length) key key (omega arith))
 
   held-list : (raw by : ℕ) → 16 ≤ by → (on : Option Key → Left)
-      → ((key : Option Key) → Held (state (raw + by) None key) (on key).left) → (key : Option Key) (a : Answer Span)
+      → ((key : Option Key) → Held (state (raw + by) None key) (on key).left) → (key : Option Key) (a : Outcome Span)
       → Held (state raw None key) (by_list s n look on (raw + by) a key).left
   unfolding by_list
-  held-list raw by l on c key ends = inl (omega arith)
   held-list raw by l on c key (refuses r) = inl (omega arith)
   held-list raw by l on c key (gives p) =
       let v = (by_entries s n look on (raw + by) (p.from + p.bytes)
@@ -117,11 +114,10 @@ module _ (s : List ℕ) (n : RecordNumber) (look : RecordNumber → Option (List
       (held-entries (raw + by) (p.from + p.bytes) on c (entries_of s n (p.from + p.bytes) p.from) p.from key) in
       inl (omega arith)
 
-  held-raws : (hs : List (Answer Attribute)) (raw : ℕ) → hs ≡ walk_from s n raw → (key : Option Key)
+  held-raws : (hs : List (Outcome Attribute)) (raw : ℕ) → hs ≡ walk_from s n raw → (key : Option Key)
       → Held (state raw None key) (by_attributes s n look hs raw key).left
   unfolding by_attributes
   held-raws [] raw q key = closed raw key
-  held-raws (ends ∷ hs) raw q key = closed raw key
   held-raws (refuses r ∷ hs) raw q key = closed raw key
   held-raws (gives h ∷ hs) raw q key =
       let k = peel_raw s n raw h hs q in
@@ -177,9 +173,8 @@ module _ (s : List ℕ) (n : RecordNumber) (look : RecordNumber → Option (List
   Open raw l = Done s n look l ⊎ Opener raw l
 
   -- the list that an attribute opens, if it does
-  by-span : (raw : ℕ) (a : Attribute) → Contains all a → end_of a ≡ raw → a.ty ≡ attribute_list → (b : Answer Span)
+  by-span : (raw : ℕ) (a : Attribute) → Contains all a → end_of a ≡ raw → a.ty ≡ attribute_list → (b : Outcome Span)
       → list_in s n a ≡ b → Open raw (opened b)
-  by-span raw a c e t ends q = inl (none_done s n look)
   by-span raw a c e t (refuses r) q = inl (none_done s n look)
   by-span raw a c e t (gives p) q = inr (record {
     by = a;
@@ -194,7 +189,7 @@ module _ (s : List ℕ) (n : RecordNumber) (look : RecordNumber → Option (List
 
   by-own : (raw : ℕ) (a : Attribute) → Contains all a → end_of a ≡ raw → Open raw (list_of s n look a)
   by-own raw a c e =
-      by-test (λ (x : Answer Span). Open raw (opened x)) (eqb a.ty attribute_list) (list_in s n a) ends
+      by-test (λ (x : Rest). Open raw x) (eqb a.ty attribute_list) (opened (list_in s n a)) no_list
       (λ t. by-span raw a c e (eqb-true a.ty attribute_list t) (list_in s n a) refl) (λ t. inl (none_done s n look))
 
   -- an entry of it

@@ -22,7 +22,7 @@ use Rattle.bound.proofs.Stretch.{Within}
 use Rattle.bound.proofs.Pays.{shut, worth, reached, Gave, Answered, call-good}
 use Rattle.bound.proofs.Runs.{split, order, reports, counted, turned-on, follows, at, stands}
 use Rattle.bound.proofs.Leads.{LedBy, asked-led}
-use Rattle.bound.proofs.Begun.{begun, is_read}
+use Rattle.bound.proofs.Begun.{begun, came}
 
 -- a part stands between the two places
 contained : (gs : List Given) (k x lo hi : ℕ) → Within lo hi gs → k < length (map (λ (g : Given). g.place) gs)
@@ -159,7 +159,7 @@ module _ (s : List ℕ) (n : RecordNumber) (look : RecordNumber → Option (List
   pub all : Whole s n look room → Demanded s n look room
   all w = record {
     reads = reads;
-    given = λ k c read w i l e. is_read s n look w i e;
+    answers = λ k c read w l. came s n look w;
     gave = λ k c read w i l e. gives_parts k c read w i l e i.rest refl [] (asked s n look room k i).given refl
         (asked-led s n look (room k) i.rest);
     apart = apart;

@@ -7,12 +7,12 @@ use native.Mathlib.Nat.{le_refl}
 use Prim.Native.Nat.{zero-le}
 use Rattle.std.proofs.lemmas.List.{length-map}
 use Rattle.std.specs.Prelude.{◌||◌, Option, Some, None}
-use Rattle.fields.specs.Answer.{Answer, gives, ends, refuses}
+use Rattle.fields.specs.Answer.{Answer, gives, ends, refuses, Outcome}
 use Rattle.fields.specs.Known.{known_type, attribute_list}
 use Rattle.fields.specs.declared.RecordNumber.{RecordNumber}
 use Rattle.fields.proofs.Cases.{both}
 use Rattle.record.specs.declared.layout.Attribute.{Attribute}
-use Rattle.record.specs.Attribute.{Inside}
+use Rattle.record.specs.Inside.{Inside}
 use Rattle.record.specs.Value.{list_in}
 use Rattle.record.specs.declared.layout.Span.{Span}
 use Rattle.record.proofs.Spans.{list-short}
@@ -138,7 +138,7 @@ module _ (s : List ℕ) (n : RecordNumber) where
           (val-pass _ _ _ _ _ _ _ (le_refl _) (E-mono _ _ (omega arith)) (E-mono _ _ (omega arith)))
           (inr (refl, le_refl _))
 
-      module _ (e : Entry) (es : List (Answer Entry)) (from : ℕ) (least : 26 ≤ e.length) (most : from + e.length ≤ to)
+      module _ (e : Entry) (es : List (Outcome Entry)) (from : ℕ) (least : 26 ≤ e.length) (most : from + e.length ≤ to)
           (tail : es ≡ entries_of s n to (from + e.length)) where
         next : ℕ
         next = from + e.length
@@ -161,13 +161,13 @@ module _ (s : List ℕ) (n : RecordNumber) where
         worth-next : (key : Option Key) → worth (state raw (Some (list_at (from + e.length) to)) key) ≡ open_to raw to
             (from + e.length) (skip key es (from + e.length))
         unfolding worth
-        worth-next key = ap (λ (x : List (Answer Entry)). open_to raw to (from + e.length)
+        worth-next key = ap (λ (x : List (Outcome Entry)). open_to raw to (from + e.length)
             (skip key x (from + e.length))) (sym tail)
 
         reached-next : (key : Option Key) → reached (state raw (Some (list_at (from + e.length) to)) key) ≡ spot raw
             (skip key es (from + e.length))
         unfolding reached
-        reached-next key = ap (λ (x : List (Answer Entry)). spot raw (skip key x (from + e.length))) (sym tail)
+        reached-next key = ap (λ (x : List (Outcome Entry)). spot raw (skip key x (from + e.length))) (sym tail)
 
         at-next : (key : Option Key) (p : ℕ) → p ≤ skip key es (from + e.length)
             → Before (spot raw p) (reached (state raw (Some (list_at (from + e.length) to)) key))
@@ -201,12 +201,11 @@ module _ (s : List ℕ) (n : RecordNumber) where
             }
 
         -- the entry was looked up: nothing is owed at it
-        looked : (lo : Spot) (k : ℕ) (a : Answer Attribute) → k ≤ length s / 16 → Before lo (spot raw from)
+        looked : (lo : Spot) (k : ℕ) (a : Outcome Attribute) → k ≤ length s / 16 → Before lo (spot raw from)
             → gives e ∷ es ≡ entries_of s n to from
             → Answered (open_to raw to from from) lo (k + 1) (item_by raw from to e a).answer
             (item_by raw from to e a).left
         unfolding item_by
-        looked lo k ends h b q = some-entry from k h
         looked lo k (refuses r) h b q = some-entry from k h
         looked lo k (gives x) h b q =
             both (λ (l : Left). Answered (open_to raw to from from) lo (k + 1) l.answer l.left) x.resident _ _
@@ -223,9 +222,8 @@ module _ (s : List ℕ) (n : RecordNumber) where
       unfolding passed_over
       not-agreed key e t = either_no (eqb e.file.0 n.0) (agrees key e) t
 
-      no-reads : (from : ℕ) (e : Entry) (a : Answer Attribute) → (item_by raw from to e a).reads ≡ []
+      no-reads : (from : ℕ) (e : Entry) (a : Outcome Attribute) → (item_by raw from to e a).reads ≡ []
       unfolding item_by
-      no-reads from e ends = refl
       no-reads from e (refuses r) = refl
       no-reads from e (gives h) = both (λ (l : Left). l.reads ≡ []) h.resident _ _ refl refl
 
@@ -242,12 +240,11 @@ module _ (s : List ℕ) (n : RecordNumber) where
           subst (λ (y : ℕ). Answered c lo y l.answer l.left) j g
 
       -- over what the entries are
-      entries-good : (es : List (Answer Entry)) (from : ℕ) (key : Option Key) (lo : Spot)
+      entries-good : (es : List (Outcome Entry)) (from : ℕ) (key : Option Key) (lo : Spot)
           → es ≡ entries_of s n to from → Before lo (spot raw (skip key es from))
           → Good (open_to raw to from (skip key es from)) lo (by_entries s n look on raw to es from key)
       unfolding by_entries
       entries-good [] from key lo q b = closing from (skip key [] from) key lo b
-      entries-good (ends ∷ es) from key lo q b = closing from (skip key (ends ∷ es) from) key lo b
       entries-good (refuses r ∷ es) from key lo q b = zero-le
       entries-good (gives e ∷ es) from key lo q b =
           let k = peel s n to from e es q in
@@ -292,10 +289,9 @@ module _ (s : List ℕ) (n : RecordNumber) where
 
       lists-good : (on : Option Key → Left) → ((key : Option Key) (lo : Spot) → lo.list ≤ raw + h.length
           → Good (shut (raw + h.length)) lo (on key))
-          → (key : Option Key) (lo : Spot) → lo.list ≤ raw → (a : Answer Span) → list_in s n h ≡ a
+          → (key : Option Key) (lo : Spot) → lo.list ≤ raw → (a : Outcome Span) → list_in s n h ≡ a
           → Good (shut raw) lo (reading (own h ∷ []) (by_list s n look on (raw + h.length) a key))
       unfolding by_list
-      lists-good on ih key lo l ends q = one-raw
       lists-good on ih key lo l (refuses r) q = one-raw
       lists-good on ih key lo l (gives p) q =
           let g = skip key (entries_of s n (p.from + p.bytes) p.from) p.from in
@@ -314,11 +310,10 @@ module _ (s : List ℕ) (n : RecordNumber) where
           alone (shut raw) lo 1 n h (state (raw + h.length) None key) (le_refl 1) raw-less (inl (omega arith)) 0
           (inr (refl, le_refl _)) (inl (omega arith))
 
-    raws-good : (hs : List (Answer Attribute)) (raw : ℕ) → hs ≡ walk_from s n raw → (key : Option Key) (lo : Spot)
+    raws-good : (hs : List (Outcome Attribute)) (raw : ℕ) → hs ≡ walk_from s n raw → (key : Option Key) (lo : Spot)
         → lo.list ≤ raw → Good (shut raw) lo (by_attributes s n look hs raw key)
     unfolding by_attributes
     raws-good [] raw q key lo l = zero-le
-    raws-good (ends ∷ hs) raw q key lo l = zero-le
     raws-good (refuses r ∷ hs) raw q key lo l = zero-le
     raws-good (gives h ∷ hs) raw q key lo l =
         let k = peel_raw s n raw h hs q in

@@ -2,26 +2,25 @@
 use Rattle.std.proofs.Common.{ℕ, zero, suc, ◌+◌, ◌≤◌, ◌<◌, ◌≡◌, List, [], ◌∷◌, ◌++◌, map, length}
 use Rattle.std.proofs.Common.{refl, sym, ap, subst, ◌∙◌, arith, append_assoc}
 use Rattle.std.proofs.lemmas.Bool.Decides.{nat_tests}
-use Rattle.std.specs.Prelude.{Option, Some, None, ltb, eqb}
-use Rattle.fields.specs.Answer.{Answer, gives, ends, refuses, refusal, ◌⟫◌}
-use Rattle.fields.specs.Length.{good_length}
+use Rattle.std.specs.Prelude.{Option, Some, None, ltb}
+use Rattle.fields.specs.Answer.{Outcome, Answer, gives, ends, refuses, ◌⟫◌}
 use Rattle.fields.specs.declared.RecordNumber.{RecordNumber}
-use Rattle.fields.proofs.Cases.{both}
-use Rattle.fields.proofs.Answers.{back, the-given}
+use Rattle.fields.proofs.Answers.{refused-given}
 use Rattle.table.specs.Check.{table_of}
 use Rattle.table.specs.Held.{Held, record_of, base_of}
-use Rattle.table.specs.Told as tables
 use Rattle.table.specs.declared.check.TableHeader.{TableHeader}
-use Rattle.record.specs.Open.{is_file, check_file, open_of, open_in}
-use Rattle.items.specs.Told as files
+use Rattle.record.specs.Open.{Lent, open_in}
+use Rattle.items.specs.Told.{file_of_bytes}
 use Rattle.items.specs.Read.{Read}
 use Rattle.items.specs.State.{fresh_of, weight}
 use Rattle.items.specs.Items.{next_of}
 use Rattle.items.specs.declared.walk.Item.{Item}
 use Rattle.items.specs.declared.walk.State.{State}
 use Rattle.items.proofs.Falls.{falls}
+use Rattle.items.proofs.Opened.{opened_in_lent}
 use Rattle.parts.specs.Parts.{parts_of}
-use Rattle.lines.specs.Line.{Line, record_line, part_line}
+use Rattle.lines.specs.declared.line.Line.{Line}
+use Rattle.lines.specs.declared.line.Line.TheVariants as line
 use Rattle.lines.specs.Listing.{most_table, given_parts, item_line, lines_after, lines_run, walk_lines}
 use Rattle.lines.specs.Listing.{opened_lines, base_lines, table_lines, checked_lines, listing_of}
 use Rattle.bound.specs.Listing.{called, reported, Listed, fresh, item}
@@ -29,7 +28,7 @@ use Rattle.bound.specs.Printed.{Closes, Tells, Ended, count_of, end_of, Listable
 use Rattle.bound.specs.Printed.{listed, WalksTell, ListingsTell}
 use Rattle.bound.proofs.Stretch.{by-test}
 use Rattle.bound.proofs.Runs.{reports}
-use Rattle.bound.proofs.Ends.{same, one, whole}
+use Rattle.bound.proofs.Ends.{stopping, same, one, whole}
 use Rattle.bound.proofs.Paid.{reads}
 use Rattle.bound.proofs.Tables.{table_sized}
 
@@ -57,14 +56,7 @@ module _ (s : List ℕ) (n : RecordNumber) (look : RecordNumber → Option (List
       (stop : (i : Item) → (called s n look rooms w).answer ≡ gives i → ⊥) where
     there : Run v.items c read w
     there =
-        let u : Ended s n look room = record {
-          items = k;
-          count = c;
-          read = read;
-          last = w;
-          listed = l;
-          stops = stop;
-        } in
+        let u : Ended s n look room = stopping s n look rooms k c read w l stop in
         subst (λ (y : ℕ). Run y c read w) (sym (one s n look rooms v u)) l
 
     last_is : v.last ≡ w
@@ -106,7 +98,7 @@ module _ (s : List ℕ) (n : RecordNumber) (look : RecordNumber → Option (List
         (item k c read w i l e) (omega arith) in
         let o : c + reported s n look rooms w + length p.reads ≡ c + length ls.reads + length p.reads = omega arith in
         more _ _ (item_line room s n look i ∷ []) _
-        (more _ _ (map (λ p. part_line p) (given_parts p)) _
+        (more _ _ (map (λ p. line.Part p) (given_parts p)) _
         (subst (λ (y : ℕ). Told (lines_run room s n look fuel y ls.left)) o t))
     after fuel k c read w l h on ends e = ended_so v k c read w l
         (λ i q. let d = sym e ∙ q in absurd (cc)) ends e _ refl
@@ -127,27 +119,6 @@ module _ (s : List ℕ) (n : RecordNumber) (look : RecordNumber → Option (List
 pub walks_tell : WalksTell
 walks_tell s n look room w = walked s n look room w
 
--- an opening gives or refuses
-opened-so : (s : List ℕ) (n : RecordNumber) (size : ℕ) → open_in s n size ≡ ends → ⊥
-unfolding open_in open_of check_file
-opened-so s n size e =
-    both (λ (a : Answer Unit). a ≡ ends → ⊥) (eqb (length s) size) _ _
-    (both (λ (a : Answer Unit). a ≡ ends → ⊥) (good_length (length s)) _ _
-    (both (λ (a : Answer Unit). a ≡ ends → ⊥) (is_file s) (gives tt) (refuses (refusal 2 n 0)) (λ q. absurd (cc))
-    (λ q. absurd (cc)))
-    (λ q. absurd (cc)))
-    (λ q. absurd (cc)) e
-
-file-by : (t : List ℕ) (h : TableHeader) (s : List ℕ) (n : RecordNumber) (a : Answer Unit)
-    → a ⟫ (λ _. gives (files.lent t h s n)) ≡ ends → a ≡ ends
-file-by t h s n (gives u) e = absurd (cc)
-file-by t h s n ends e = refl
-file-by t h s n (refuses r) e = absurd (cc)
-
-file-so : (t : List ℕ) (h : TableHeader) (s : List ℕ) (n : RecordNumber) → files.file_of t h s n ≡ ends → ⊥
-unfolding files.file_of
-file-so t h s n e = opened-so s n h.size (file-by t h s n (open_in s n h.size) e)
-
 module _ (room : ℕ) (t : List ℕ) where
   -- a base record that was opened is walked
   module _ (h : TableHeader) (p : table_of t ≡ gives h) (b : Held) (q : base_of t ≡ Some b)
@@ -155,18 +126,12 @@ module _ (room : ℕ) (t : List ℕ) where
     listable : Listable t b
     listable = record { short = short; based = record { header = h; passed = p; base = q } }
 
-    by-bytes : (a : Answer files.Lent) → files.file_of t h b.bytes b.number ≡ a
-        → files.file_of_bytes t b.bytes b.number ≡ a
-    unfolding files.file_of_bytes
-    by-bytes a e = ap (λ (x : Answer TableHeader). x ⟫ λ g. files.file_of t g b.bytes b.number) p ∙ e
+    by-bytes : (a : Outcome Lent) → open_in b.bytes b.number h.size ≡ a → file_of_bytes t b.bytes b.number ≡ a
+    unfolding file_of_bytes
+    by-bytes a e = ap (λ (x : Outcome TableHeader). x ⟫ λ g. open_in b.bytes b.number g.size) p ∙ e
 
-    lent_is : (x : files.Lent) → files.file_of t h b.bytes b.number ≡ gives x → files.lent t h b.bytes b.number ≡ x
-    unfolding files.file_of
-    lent_is x e = the-given (back (open_in b.bytes b.number h.size)
-        (λ _. gives (files.lent t h b.bytes b.number)) x e).next
-
-    by-walk : (x : files.Lent) → files.file_of_bytes t b.bytes b.number ≡ gives x
-        → Listing room t (record_line b.number (length b.bytes) ∷ walk_lines room b.bytes b.number (record_of t) 0
+    by-walk : (x : Lent) → file_of_bytes t b.bytes b.number ≡ gives x
+        → Listing room t (line.Record b.number (length b.bytes) ∷ walk_lines room b.bytes b.number (record_of t) 0
         (fresh_of b.bytes))
     by-walk x e =
         let look = record_of t in
@@ -176,32 +141,29 @@ module _ (room : ℕ) (t : List ℕ) where
         (reads b.bytes b.number look (λ k. room) (table_sized t b.bytes b.number x e) w.items w.count w.read w.last
         w.listed).bound
 
-    by-file : (a : Answer files.Lent) → files.file_of t h b.bytes b.number ≡ a
-        → Listing room t (record_line b.number (length b.bytes) ∷ opened_lines room a)
+    by-file : (a : Outcome Lent) → open_in b.bytes b.number h.size ≡ a
+        → Listing room t (line.Record b.number (length b.bytes) ∷ opened_lines room t a)
     unfolding opened_lines
     by-file (gives x) e =
-        subst (λ (y : files.Lent). Listing room t (record_line b.number
-        (length b.bytes) ∷ walk_lines room y.base.bytes y.base.number (record_of y.table.bytes) 0
-        (fresh_of y.base.bytes)))
-        (lent_is x e) (by-walk x (by-bytes (gives x) e))
-    by-file ends e = absurd (file-so t h b.bytes b.number e)
+        subst (λ (y : Lent). Listing room t (line.Record b.number (length b.bytes)
+        ∷ walk_lines room y.bytes y.number (record_of t) 0 (fresh_of y.bytes)))
+        (sym (opened_in_lent b.bytes b.number x h.size (sym e))) (by-walk x (by-bytes (gives x) e))
     by-file (refuses r) e = unopened b r listable (by-bytes (refuses r) e)
 
   by-base : (h : TableHeader) → table_of t ≡ gives h → length t ≤ most_table → (o : Option Held) → base_of t ≡ o
-      → Listing room t (base_lines room (tables.lent t h) o)
+      → Listing room t (base_lines room t h o)
   unfolding base_lines
   by-base h p short None q = refused (λ b l. let d = sym q ∙ l.based.base in absurd (cc))
-  by-base h p short (Some b) q = by-file h p b q short (files.file_of t h b.bytes b.number) refl
+  by-base h p short (Some b) q = by-file h p b q short (open_in b.bytes b.number h.size) refl
 
-  by-check : length t ≤ most_table → (a : Answer TableHeader) → table_of t ≡ a
-      → Listing room t (checked_lines room (a ⟫ λ h. gives (tables.lent t h)))
+  by-check : length t ≤ most_table → (a : Outcome TableHeader) → table_of t ≡ a
+      → Listing room t (checked_lines room t a)
   unfolding checked_lines table_lines
   by-check short (gives h) p = by-base h p short (base_of t) refl
-  by-check short ends p = refused (λ b l. let d = sym p ∙ l.based.passed in absurd (cc))
-  by-check short (refuses r) p = refused (λ b l. let d = sym p ∙ l.based.passed in absurd (cc))
+  by-check short (refuses r) p = refused (λ b l. refused-given (sym p ∙ l.based.passed))
 
   by-length : Listing room t (listing_of room t)
-  unfolding listing_of tables.checked_of
+  unfolding listing_of
   by-length =
       by-test (λ (x : List Line). Listing room t x) (ltb most_table (length t)) _ _
       (λ q. refused (λ b l. let s = l.short in let o : most_table < length t = grind (arith, nat_tests) in absurd

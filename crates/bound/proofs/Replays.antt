@@ -3,19 +3,18 @@ use Rattle.std.proofs.Common.{ℕ, ◌+◌, ◌-◌, ◌≡◌, List, [], ◌∷
 use Rattle.std.proofs.Common.{subst, ◌∙◌}
 use Rattle.std.specs.Prelude.{◌&&◌, Option, Some, None, IfSome}
 use Rattle.fields.specs.Pick.{pick}
-use Rattle.fields.specs.Answer.{Answer, gives, ends, refuses, refusal}
+use Rattle.fields.specs.Answer.{Answer, gives, ends, refuses, refusal, Outcome}
 use Rattle.fields.specs.Known.{known_type, attribute_list}
-use Rattle.record.specs.Open.{check_file}
 use Rattle.record.specs.Header.{first_attribute}
 use Rattle.fields.specs.declared.RecordNumber.{RecordNumber}
-use Rattle.fields.specs.Answer.{Refused}
 use Rattle.fields.proofs.Cases.{both}
-use Rattle.fields.proofs.Answers.{back, the-given}
+use Rattle.fields.specs.declared.Refusal.{Refusal}
+use Rattle.fields.specs.declared.Cause.TheVariants.{NoAttribute, UnknownType}
 use Rattle.record.specs.declared.layout.Attribute.{Attribute}
 use Rattle.record.specs.Value.{list_in}
 use Rattle.record.specs.declared.layout.Span.{Span}
 use Rattle.list.specs.declared.Entry.{Entry}
-use Rattle.record.specs.Told.{Lent, lent}
+use Rattle.record.specs.Open.{Lent}
 use Rattle.record.specs.Walk.{walk_from, attributes_of}
 use Rattle.record.specs.Search.{Searched, behind_one, find_in}
 use Rattle.items.specs.Lookup.{opened_as, held_by, lookup_of}
@@ -35,16 +34,16 @@ use Rattle.bound.specs.Replay.{Search, search, Heads, heads, no_list, opened, be
 use Rattle.bound.specs.Replay.{Replay, onward, Holds, Keeps}
 use Rattle.record.proofs.Peel.{peel_raw}
 use Rattle.items.proofs.Peel.{peel}
+use Rattle.items.proofs.Opened.{opened_file}
 use Rattle.bound.proofs.Stretch.{by-test}
-use Rattle.bound.proofs.Finished.{none_done, none_left, end_left}
+use Rattle.bound.proofs.Finished.{none_done, none_left}
 
 -- a record that is looked up has the number that was asked for
-numbered : (w : RecordNumber) (miss : Refused) (o : Option (List ℕ)) (t : Lent) → opened_as w miss o ≡ gives t
+numbered : (w : RecordNumber) (miss : Refusal) (o : Option (List ℕ)) (t : Lent) → opened_as w miss o ≡ gives t
     → w ≡ t.number
 unfolding opened_as
 numbered w miss None t e = absurd (cc)
-numbered w miss (Some b) t e = let k = back (check_file b w) (λ _. gives (lent b w)) t e in ap
-    (λ (x : Lent). x.number) (the-given k.next)
+numbered w miss (Some b) t e = sym (ap (λ (x : Lent). x.number) (opened_file b w t (sym e)))
 
 looked-number : (s : List ℕ) (n : RecordNumber) (look : RecordNumber → Option (List ℕ)) (w : RecordNumber) (place : ℕ)
     (t : Lent) → lookup_of s n look w place ≡ gives t → w ≡ t.number
@@ -52,7 +51,8 @@ unfolding lookup_of held_by
 looked-number s n look w place t e = numbered w _ _ t e
 
 module _ (s : List ℕ) (n : RecordNumber) (look : RecordNumber → Option (List ℕ)) where
-  pub onward-append : (h : Heads) (a b : List Read) → onward s n look h (a ++ b) ≡ onward s n look (onward s n look h a) b
+  pub onward-append : (h : Heads) (a b : List Read)
+      → onward s n look h (a ++ b) ≡ onward s n look (onward s n look h a) b
   onward-append h [] b = refl
   onward-append h (r ∷ a) b = onward-append (behind s n look h r) a b
 
@@ -81,12 +81,11 @@ module _ (s : List ℕ) (n : RecordNumber) (look : RecordNumber → Option (List
   seek-none raw list x ps = record { replay = tt; search_left = x; same = refl }
 
   seek : (raw : ℕ) (list ps : Rest) (t : Lent) (f : RecordNumber) → f ≡ t.number
-      → (k : RecordNumber) (ty instance : ℕ) (miss : Refused) (hs : List (Answer Attribute)) (at : ℕ)
+      → (k : RecordNumber) (ty instance : ℕ) (miss : Refusal) (hs : List (Outcome Attribute)) (at : ℕ)
       → hs ≡ walk_from t.bytes t.number at → Seeks raw list (Some (search t at)) ps
       (map (sought f) (find_in k ty instance miss hs).read)
   unfolding find_in
   seek raw list ps t f e k ty instance miss [] at q = seek-none raw list (Some (search t at)) ps
-  seek raw list ps t f e k ty instance miss (ends ∷ hs) at q = seek-none raw list (Some (search t at)) ps
   seek raw list ps t f e k ty instance miss (refuses r ∷ hs) at q = seek-none raw list (Some (search t at)) ps
   seek raw list ps t f e k ty instance miss (gives h ∷ hs) at q =
       let p = peel_raw t.bytes t.number at h hs q in
@@ -98,14 +97,13 @@ module _ (s : List ℕ) (n : RecordNumber) (look : RecordNumber → Option (List
       (record { replay = ((e, p.stands), i.replay); search_left = i.search_left; same = i.same }))
       (record { replay = ((e, p.stands), tt); search_left = Some (search t (at + h.length)); same = refl })
 
-  found : (raw : ℕ) (list ps : Rest) (e : Entry) (place : ℕ) (a : Answer Lent) → lookup_of s n look e.file place ≡ a
+  found : (raw : ℕ) (list ps : Rest) (e : Entry) (place : ℕ) (a : Outcome Lent) → lookup_of s n look e.file place ≡ a
       → Seeks raw list (begins a) ps (map (sought e.file) (found_in s n look e place a).read)
   unfolding found_in attributes_of
-  found raw list ps e place ends q = seek-none raw list None ps
   found raw list ps e place (refuses r) q = seek-none raw list None ps
   found raw list ps e place (gives t) q =
       seek raw list ps t e.file (looked-number s n look e.file place t q) t.number e.ty e.instance
-      (refusal 18 n place) _ (first_attribute t.bytes) refl
+      (refusal NoAttribute n place) _ (first_attribute t.bytes) refl
 
   -- for an entry that was looked up
   sought-told : (raw : ℕ) (list ps : Rest) (e : Entry) (place : ℕ)
@@ -146,10 +144,9 @@ module _ (s : List ℕ) (n : RecordNumber) (look : RecordNumber → Option (List
 
   module _ (raw to : ℕ) (on : Option Key → Left) (closes : (key : Option Key) (list : Rest) (x : Option Search)
       (ps : Rest) → Done s n look list → Told (heads raw list x ps) (on key)) where
-    item-left : (from : ℕ) (e : Entry) (x : Option Search) (a : Answer Attribute)
+    item-left : (from : ℕ) (e : Entry) (x : Option Search) (a : Outcome Attribute)
         → Told (heads raw (list_at (from + e.length) to) x (list_at from to)) (item_by raw from to e a)
     unfolding item_by
-    item-left from e x ends = record { replay = tt; keeps = record { raw = refl; list = refl }; begin = tt }
     item-left from e x (refuses r) = record { replay = tt; keeps = record { raw = refl; list = refl }; begin = tt }
     item-left from e x (gives h) =
         let v = leaves (gives (item e.file h None)) (state raw (Some (list_at (from + e.length) to)) None) in
@@ -159,12 +156,11 @@ module _ (s : List ℕ) (n : RecordNumber) (look : RecordNumber → Option (List
         (record { replay = tt; keeps = record { raw = refl; list = refl }; begin = tt })
         (record { replay = tt; keeps = record { raw = refl; list = refl }; begin = refl })
 
-    entries-told : (es : List (Answer Entry)) (from : ℕ) (key : Option Key) (x : Option Search) (ps : Rest)
+    entries-told : (es : List (Outcome Entry)) (from : ℕ) (key : Option Key) (x : Option Search) (ps : Rest)
         → es ≡ entries_of s n to from
         → Told (heads raw (list_at from to) x ps) (by_entries s n look on raw to es from key)
     unfolding by_entries
     entries-told [] from key x ps q = closes key (list_at from to) x ps (none_left s n look to from q)
-    entries-told (ends ∷ es) from key x ps q = closes key (list_at from to) x ps (end_left s n look to from es q)
     entries-told (refuses r ∷ es) from key x ps q = record {
       replay = tt;
       keeps = record { raw = refl; list = refl };
@@ -174,7 +170,8 @@ module _ (s : List ℕ) (n : RecordNumber) (look : RecordNumber → Option (List
         let k = peel s n to from e es q in
         let P = λ (l : Left). Told (heads raw (list_at from to) x ps) (reading (entry (spot raw from) e ∷ []) l) in
         let y = begins (lookup_of s n look e.file from) in
-        let last = leaves (refuses (refusal 6 n from)) (state raw (Some (list_at (from + e.length) to)) key) in
+        let list = list_at (from + e.length) to in
+        let last = leaves (refuses (refusal UnknownType n from)) (state raw (Some list) key) in
         both P (known_type e.ty) _ _
         (both P (passed_over n key e) _ _
         (more (heads raw (list_at from to) x ps) (entry (spot raw from) e)
@@ -194,14 +191,9 @@ module _ (s : List ℕ) (n : RecordNumber) (look : RecordNumber → Option (List
   lists-told : (raw : ℕ) (h : Attribute) (on : Option Key → Left)
       → ((key : Option Key) (list : Rest) (x : Option Search) (ps : Rest) → Done s n look list
       → Told (heads (raw + h.length) list x ps) (on key))
-      → (key : Option Key) (a : Answer Span) → Told (heads (raw + h.length) (opened a) None no_list)
+      → (key : Option Key) (a : Outcome Span) → Told (heads (raw + h.length) (opened a) None no_list)
       (by_list s n look on (raw + h.length) a key)
   unfolding by_list
-  lists-told raw h on c key ends = record {
-    replay = tt;
-    keeps = record { raw = refl; list = none_done s n look };
-    begin = tt;
-  }
   lists-told raw h on c key (refuses r) = record {
     replay = tt;
     keeps = record { raw = refl; list = none_done s n look };
@@ -211,16 +203,11 @@ module _ (s : List ℕ) (n : RecordNumber) (look : RecordNumber → Option (List
       entries-told (raw + h.length) (p.from + p.bytes) on c (entries_of s n (p.from + p.bytes) p.from) p.from key None
       no_list refl
 
-  raws-told : (hs : List (Answer Attribute)) (raw : ℕ) → hs ≡ walk_from s n raw
+  raws-told : (hs : List (Outcome Attribute)) (raw : ℕ) → hs ≡ walk_from s n raw
       → (key : Option Key) (list : Rest) (x : Option Search) (ps : Rest) → Done s n look list
       → Told (heads raw list x ps) (by_attributes s n look hs raw key)
   unfolding by_attributes
   raws-told [] raw q key list x ps d = record { replay = tt; keeps = record { raw = refl; list = d }; begin = tt }
-  raws-told (ends ∷ hs) raw q key list x ps d = record {
-    replay = tt;
-    keeps = record { raw = refl; list = d };
-    begin = tt;
-  }
   raws-told (refuses r ∷ hs) raw q key list x ps d = record {
     replay = tt;
     keeps = record { raw = refl; list = d };
@@ -233,7 +220,7 @@ module _ (s : List ℕ) (n : RecordNumber) (look : RecordNumber → Option (List
       let last = leaves (gives (item n h None)) (state (raw + h.length) None key) in
       by-test P (eqb h.ty attribute_list) _ _
       (λ t. more (heads raw list x ps) (own h) l (d, k.stands)
-      (subst (λ (b : Bool). Told (heads (raw + h.length) (opened (pick b (list_in s n h) ends)) None no_list) l)
+      (subst (λ (b : Bool). Told (heads (raw + h.length) (pick b (opened (list_in s n h)) no_list) None no_list) l)
       (sym t)
       (lists-told raw h (by_attributes s n look hs (raw + h.length)) (raws-told hs (raw + h.length) k.tail) key
       (list_in s n h))))
@@ -243,7 +230,7 @@ module _ (s : List ℕ) (n : RecordNumber) (look : RecordNumber → Option (List
         keeps = record {
           raw = refl;
           list = subst
-              (λ (b : Bool). Done s n look (opened (pick b (list_in s n h) ends))) (sym t) (none_done s n look);
+              (λ (b : Bool). Done s n look (pick b (opened (list_in s n h)) no_list)) (sym t) (none_done s n look);
         };
         begin = tt;
       }))
@@ -280,18 +267,16 @@ module _ (s : List ℕ) (n : RecordNumber) (look : RecordNumber → Option (List
   }
 
   module _ (raw : ℕ) (list : Rest) (to : ℕ) (key : Key) where
-    giving-told : (from : ℕ) (ps : Rest) (x : Option Search) (a : Answer Part) (p : Parts)
+    giving-told : (from : ℕ) (ps : Rest) (x : Option Search) (a : Outcome Part) (p : Parts)
         → Aside raw list x ps p.reads → Aside raw list x ps (giving from a p).reads
     unfolding giving
     giving-told from ps x (gives v) p t = t
-    giving-told from ps x ends p t = nothing raw list x ps
     giving-told from ps x (refuses r) p t = nothing raw list x ps
 
-    parts-told : (room : ℕ) (es : List (Answer Entry)) (from : ℕ) (x : Option Search) → es ≡ entries_of s n to from
+    parts-told : (room : ℕ) (es : List (Outcome Entry)) (from : ℕ) (x : Option Search) → es ≡ entries_of s n to from
         → Aside raw list x (list_at from to) (parts_by s n look key room es from).reads
     unfolding parts_by
     parts-told room [] from x q = nothing raw list x (list_at from to)
-    parts-told room (ends ∷ es) from x q = nothing raw list x (list_at from to)
     parts-told room (refuses r ∷ es) from x q = nothing raw list x (list_at from to)
     parts-told room (gives e ∷ es) from x q =
         let k = peel s n to from e es q in
@@ -320,11 +305,10 @@ module _ (s : List ℕ) (n : RecordNumber) (look : RecordNumber → Option (List
         none)
         none
 
-  from-told : (raw : ℕ) (list : Rest) (x : Option Search) (to room : ℕ) (es : List (Answer Entry)) (from : ℕ)
+  from-told : (raw : ℕ) (list : Rest) (x : Option Search) (to room : ℕ) (es : List (Outcome Entry)) (from : ℕ)
       → es ≡ entries_of s n to from → Aside raw list x (list_at from to) (parts_from s n look room es from).reads
   unfolding parts_from
   from-told raw list x to room [] from q = nothing raw list x (list_at from to)
-  from-told raw list x to room (ends ∷ es) from q = nothing raw list x (list_at from to)
   from-told raw list x to room (refuses r ∷ es) from q = nothing raw list x (list_at from to)
   from-told raw list x to room (gives e ∷ es) from q = parts-told raw list to (key_of e) room (gives e ∷ es) from x q
 

@@ -1,6 +1,6 @@
 -- The calls of a program are a listing.
-use Rattle.std.proofs.Common.{ℕ, suc, ◌+◌, ◌/◌, ◌≤◌, ◌≡◌, List, [], ◌∷◌, ◌++◌, length, set, refl, sym, ap}
-use Rattle.std.proofs.Common.{subst, ◌∙◌, arith, length-set}
+use Rattle.std.proofs.Common.{ℕ, suc, ◌+◌, ◌/◌, ◌≤◌, ◌≡◌, List, [], ◌++◌, length, sym}
+use Rattle.std.proofs.Common.{subst, ◌∙◌, arith}
 use native.Mathlib.Nat.{mul-le-mul}
 use Rattle.fields.specs.Answer.{gives}
 use Rattle.fields.specs.Told.{told_step}
@@ -13,19 +13,13 @@ use Rattle.items.specs.declared.File.{File}
 use Rattle.items.specs.declared.walk.Item.{Item}
 use Rattle.items.specs.declared.walk.State.{State}
 use Rattle.items.specs.declared.walk.Walked.{Walked}
-use Rattle.parts.specs.Parts.{Given, Parts, parts_of}
-use Rattle.parts.specs.Filled.{Told, put, told_parts, filled}
-use Rattle.parts.specs.declared.Part.{Part}
-use Rattle.parts.specs.declared.Filled.{Filled}
+use Rattle.parts.specs.OfFile.{parts_of_file}
+use Rattle.parts.specs.Filled.{most_parts}
 use Rattle.bound.specs.Listing.{most, reported, asked, Listed, fresh, item}
 use Rattle.bound.specs.Calls.{Counts}
 use Rattle.bound.specs.Told.{room}
 use Rattle.bound.proofs.Tables.{every_file}
-use Rattle.bound.proofs.Calls.{counts_so}
-
-told-reads : (xs ys : List Part) (r : Filled) (p : Parts) → filled ys r ≡ told_parts xs p → r.reads ≡ length p.reads
-unfolding told_parts
-told-reads xs ys r p e = ap (λ (t : Told). t.reads) e
+use Rattle.bound.proofs.Calls.{counts_so, gave, left, count}
 
 small : (m : ℕ) → m ≤ 4096 → most m ≤ 100000
 small m h =
@@ -63,40 +57,26 @@ module _ (f : File) where
   fits c w l = let k = few-by c w l in omega arith
 
   module _ (c : ℕ) (w : State) (l : Sofar c w) (r : Walked) (e : told_next r ≡ report_of (call w)) where
-    gave : told_step r.answer ≡ (call w).answer
-    unfolding report_of
-    gave = ap (λ x. x.answer) e
-
-    left : r.left ≡ (call w).left
-    unfolding report_of
-    left = ap (λ x. x.left) e
-
-    count : r.reads ≡ (report_of (call w)).reads
-    count = ap (λ x. x.reads) e
-
     pub few : c + r.reads ≤ 100000
-    few = let k = few-by c w l in omega (arith, count)
+    few = let k = few-by c w l in omega (arith, count f w r e)
 
-    pub next : (i : Item) → told_step r.answer ≡ gives i → (t : Filled) (xs ys : List Part) → length xs ≡ 157
-        → filled ys t ≡ told_parts xs (parts_of s f.base.number (record_of f.table.bytes.now) (length xs) i.rest)
-        → Sofar (c + r.reads + t.reads) r.left
-    next i q t xs ys m d =
-        let g : (call w).answer ≡ gives i = sym gave ∙ q in
-        let n = told-reads xs ys t _ d in
+    pub next : (i : Item) → told_step r.answer ≡ gives i → (p : ℕ)
+        → p ≡ length (parts_of_file f most_parts i.rest).reads → Sofar (c + r.reads + p) r.left
+    next i q p d =
+        let g : (call w).answer ≡ gives i = sym (gave f w r e) ∙ q in
         let ps = (asked s f.base.number (record_of f.table.bytes.now) room l.items i).reads in
-        let o = ap (λ (k : ℕ). length (parts_of s f.base.number (record_of f.table.bytes.now) k i.rest).reads) m in
-        let p : c + (report_of (call w)).reads + length ps ≡ c + r.reads + t.reads = omega (arith, count) in
+        let m : c + (report_of (call w)).reads + length ps ≡ c + r.reads + p = omega (arith, count f w r e) in
         let all = l.read ++ (call w).reads ++ ps in
         record {
           items = suc l.items;
           read = all;
-          listed = subst (Run (suc l.items) (c + r.reads + t.reads) all) (sym left)
-              (subst (λ (k : ℕ). Run (suc l.items) k all (call w).left) p (item l.items c l.read w i l.listed g));
+          listed = subst (Run (suc l.items) (c + r.reads + p) all) (sym (left f w r e))
+              (subst (λ (k : ℕ). Run (suc l.items) k all (call w).left) m (item l.items c l.read w i l.listed g));
         }
 
     pub stopped : ((i : Item) → told_step r.answer ≡ gives i → ⊥)
         → Counts s f.base.number (record_of f.table.bytes.now) room (c + r.reads)
     stopped h =
-        subst (λ (k : ℕ). Counts s f.base.number (record_of f.table.bytes.now) room (c + k)) (sym count)
+        subst (λ (k : ℕ). Counts s f.base.number (record_of f.table.bytes.now) room (c + k)) (sym (count f w r e))
         (counts_so s f.base.number (record_of f.table.bytes.now) room l.items c l.read w l.listed
-        (λ i q. h i (gave ∙ q)))
+        (λ i q. h i (gave f w r e ∙ q)))

@@ -7,10 +7,11 @@ use Rattle.std.specs.Prelude.{Option, Some}
 use native.Mathlib.Nat.{mul-le-mul_right}
 use borrow.Author.Tests.{eq-eqb}
 use Rattle.fields.specs.Pick.{pick}
-use Rattle.fields.specs.Answer.{Answer, gives, ends, refuses, refusal}
+use Rattle.fields.specs.Answer.{gives, refuses, refusal, Outcome}
 use Rattle.fields.specs.Known.{known_type}
 use Rattle.fields.specs.declared.RecordNumber.{RecordNumber}
 use Rattle.fields.proofs.Cases.{both}
+use Rattle.fields.specs.declared.Cause.TheVariants.{NoRoom, UnknownType, BadState}
 use Rattle.list.specs.declared.Entry.{Entry}
 use Rattle.items.specs.Read.{Read, sought, joined}
 use Rattle.items.specs.State.{list_at, agrees, key_of, lies_in}
@@ -31,33 +32,31 @@ by-test P true x y p q = p refl
 by-test P false x y p q = q refl
 
 -- where the entries end that agree with the key, one behind the other
-unfoldable pub skip : Option Key → List (Answer Entry) → ℕ → ℕ
+unfoldable pub skip : Option Key → List (Outcome Entry) → ℕ → ℕ
 skip key [] from = from
-skip key (ends ∷ es) from = from
 skip key (refuses r ∷ es) from = from
 skip key (gives e ∷ es) from = pick (agrees key e) (skip key es (from + e.length)) from
 
-pub skip-ge : (key : Option Key) (es : List (Answer Entry)) (from : ℕ) → from ≤ skip key es from
+pub skip-ge : (key : Option Key) (es : List (Outcome Entry)) (from : ℕ) → from ≤ skip key es from
 unfolding skip
 skip-ge key [] from = omega arith
-skip-ge key (ends ∷ es) from = omega arith
 skip-ge key (refuses r ∷ es) from = omega arith
 skip-ge key (gives e ∷ es) from = both (λ (x : ℕ). from ≤ x) (agrees key e) _ _
     (omega (arith, skip-ge key es (from + e.length))) (omega arith)
 
 -- behind an entry it ends no earlier
-pub skip-on : (key : Option Key) (e : Entry) (es : List (Answer Entry)) (from : ℕ)
+pub skip-on : (key : Option Key) (e : Entry) (es : List (Outcome Entry)) (from : ℕ)
     → skip key (gives e ∷ es) from ≤ skip key es (from + e.length)
 unfolding skip
 skip-on key e es from = both (λ (x : ℕ). x ≤ skip key es (from + e.length)) (agrees key e) _ _ (omega arith)
     (omega (arith, skip-ge key es (from + e.length)))
 
-pub skip-yes : (key : Option Key) (e : Entry) (es : List (Answer Entry)) (from : ℕ) → agrees key e ≡ true
+pub skip-yes : (key : Option Key) (e : Entry) (es : List (Outcome Entry)) (from : ℕ) → agrees key e ≡ true
     → skip key (gives e ∷ es) from ≡ skip key es (from + e.length)
 unfolding skip
 skip-yes key e es from a = rw a
 
-pub skip-no : (key : Option Key) (e : Entry) (es : List (Answer Entry)) (from : ℕ) → agrees key e ≡ false
+pub skip-no : (key : Option Key) (e : Entry) (es : List (Outcome Entry)) (from : ℕ) → agrees key e ≡ false
     → skip key (gives e ∷ es) from ≡ from
 unfolding skip
 skip-no key e es from a = rw a
@@ -99,7 +98,7 @@ module _ (s : List ℕ) (n : RecordNumber) (look : RecordNumber → Option (List
   step from by a b = E-step _ _ (omega arith)
 
   -- at most one read, and no part
-  stop : (from g : ℕ) (rs : List Read) (a : Answer Unit) → length rs ≤ 1 → from ≤ g
+  stop : (from g : ℕ) (rs : List Read) (a : Outcome Unit) → length rs ≤ 1 → from ≤ g
       → Paid from g (reading rs (stops a))
   stop from g rs a h l = record { paid = omega (arith, mul_fit from g l, length-append rs []); within = tt }
     where
@@ -107,8 +106,25 @@ module _ (s : List ℕ) (n : RecordNumber) (look : RecordNumber → Option (List
       mul_fit from g l = mul-le-mul_right (1 + A) (less from g l)
 
   module _ (key : Key) where
+    -- an entry with its lookup ended the parts
+    last : (from by g : ℕ) (e : Entry) (rs : List Read) (a : Outcome Unit) → 26 ≤ by → from + by ≤ to
+        → from + by ≤ g → 16 * length rs ≤ length s
+        → Paid from g (reading (joined from e ∷ []) (reading rs (stops a)))
+    last from by g e rs a l m h f =
+        let t = step from by l m in let u = less (from + by) g h in
+        let few : length rs + 1 ≤ A + 1 = omega arith in
+        record {
+          paid = omega (
+            arith,
+            pay-last A (length rs + 1) (Fit g) (Fit from) few
+                (omega arith),
+            length-append rs [],
+          );
+          within = tt;
+        }
+
     -- an entry with its lookup gave its part, or its refusal
-    gave : (from by g : ℕ) (e : Entry) (rs : List Read) (a : Answer Part) (p : Parts) → 26 ≤ by → from + by ≤ to
+    gave : (from by g : ℕ) (e : Entry) (rs : List Read) (a : Outcome Part) (p : Parts) → 26 ≤ by → from + by ≤ to
         → from + by ≤ g → 16 * length rs ≤ length s
         → Paid (from + by) g p → Paid from g (reading (joined from e ∷ []) (reading rs (giving from a p)))
     unfolding giving
@@ -124,36 +140,12 @@ module _ (s : List ℕ) (n : RecordNumber) (look : RecordNumber → Option (List
           );
           within = (omega arith, omega arith, within-lo from (from + by) g p.given (omega arith) i.within);
         }
-    gave from by g e rs ends p l m h f i =
-        let t = step from by l m in let u = less (from + by) g h in
-        let few : length rs + 1 ≤ A + 1 = omega arith in
-        record {
-          paid = omega (
-            arith,
-            pay-last A (length rs + 1) (Fit g) (Fit from) few
-                (omega arith),
-            length-append rs [],
-          );
-          within = tt;
-        }
-    gave from by g e rs (refuses r) p l m h f i =
-        let t = step from by l m in let u = less (from + by) g h in
-        let few : length rs + 1 ≤ A + 1 = omega arith in
-        record {
-          paid = omega (
-            arith,
-            pay-last A (length rs + 1) (Fit g) (Fit from) few
-                (omega arith),
-            length-append rs [],
-          );
-          within = tt;
-        }
+    gave from by g e rs (refuses r) p l m h f i = last from by g e rs (refuses r) l m h f
 
-    pub parts-paid : (room : ℕ) (es : List (Answer Entry)) (from : ℕ) → es ≡ entries_of s n to from
+    pub parts-paid : (room : ℕ) (es : List (Outcome Entry)) (from : ℕ) → es ≡ entries_of s n to from
         → Paid from (skip (Some key) es from) (parts_by s n look key room es from)
     unfolding parts_by
     parts-paid room [] from i = stop from _ [] (gives tt) (omega arith) (skip-ge (Some key) [] from)
-    parts-paid room (ends ∷ es) from i = stop from _ [] (gives tt) (omega arith) (skip-ge (Some key) (ends ∷ es) from)
     parts-paid room (refuses r ∷ es) from i = stop from _ [] (refuses r) (omega arith)
         (skip-ge (Some key) (refuses r ∷ es) from)
     parts-paid room (gives e ∷ es) from i =
@@ -161,7 +153,7 @@ module _ (s : List ℕ) (n : RecordNumber) (look : RecordNumber → Option (List
         let g = skip (Some key) (gives e ∷ es) from in
         let l = skip-ge (Some key) (gives e ∷ es) from in
         let P = λ (x : Parts). Paid from g (reading (joined from e ∷ []) x) in
-        let one = λ (a : Answer Unit). stop from g (joined from e ∷ []) a (omega arith) l in
+        let one = λ (a : Outcome Unit). stop from g (joined from e ∷ []) a (omega arith) l in
         by-test P (eqb e.instance key.instance) _ _
         (λ a. both P (known_type e.ty) _ _
         (by-test P (eqb e.ty key.ty) _ _
@@ -176,13 +168,13 @@ module _ (s : List ℕ) (n : RecordNumber) (look : RecordNumber → Option (List
         k.least k.most (skip-ge (Some key) es (from + e.length))
         (omega (arith, few s n look z e from, length-map (sought_of s n look e from).read (sought e.file)))
         (parts-paid (room - 1) es (from + e.length) k.tail)))
-        (one (refuses (refusal 20 n from))))
+        (one (refuses (refusal NoRoom n from))))
         (λ _. one (gives tt)))
-        (one (refuses (refusal 6 n from))))
+        (one (refuses (refusal UnknownType n from))))
         (λ _. one (gives tt))
 
   -- the parts of an item whose entry e stands at a place, with what agrees behind it
-  pub begun : (room from : ℕ) (e : Entry) (es : List (Answer Entry)) → gives e ∷ es ≡ entries_of s n to from
+  pub begun : (room from : ℕ) (e : Entry) (es : List (Outcome Entry)) → gives e ∷ es ≡ entries_of s n to from
       → Paid from (skip (Some (key_of e)) es (from + e.length)) (parts_of s n look room (Some (list_at from to)))
   unfolding parts_of parts_in parts_from
   begun room from e es i =
@@ -191,7 +183,7 @@ module _ (s : List ℕ) (n : RecordNumber) (look : RecordNumber → Option (List
       let l = skip-ge (Some (key_of e)) es (from + e.length) in
       let t = skip-yes (Some (key_of e)) e es from (own_key e) in
       both (Paid from g) (lies_in (length s) (Some (list_at from to))) _ _
-      (subst (λ (x : List (Answer Entry)). Paid from g (parts_from s n look room x from)) i
+      (subst (λ (x : List (Outcome Entry)). Paid from g (parts_from s n look room x from)) i
       (subst (λ (x : ℕ). Paid from x (parts_by s n look (key_of e) room (gives e ∷ es) from)) t
       (parts-paid (key_of e) room (gives e ∷ es) from i)))
-      (stop from g [] (refuses (refusal 22 n 0)) (omega arith) (omega arith))
+      (stop from g [] (refuses (refusal BadState n 0)) (omega arith) (omega arith))

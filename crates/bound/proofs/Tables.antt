@@ -1,6 +1,5 @@
 -- What a table holds is as long as a base record that was opened with it. So the theorem holds of every table.
-use Rattle.std.proofs.Common.{ℕ, ◌+◌, ◌≤◌, ◌≡◌, List, length, subst, arith}
-use Rattle.std.proofs.lemmas.Bool.Decides.{nat_tests}
+use Rattle.std.proofs.Common.{ℕ, ◌+◌, ◌≤◌, ◌≡◌, List, length, subst, sym, ap, ◌∙◌, arith}
 use Rattle.fields.specs.Answer.{gives}
 use Rattle.fields.specs.declared.RecordNumber.{RecordNumber}
 use Rattle.fields.proofs.Answers.{back}
@@ -9,26 +8,23 @@ use Rattle.table.specs.Held.{record_of}
 use Rattle.table.specs.declared.check.TableHeader.{TableHeader}
 use Rattle.table.proofs.Sound.{sound}
 use Rattle.table.proofs.Holds.{record-sized}
-use Rattle.record.specs.Open.{open_in}
-use Rattle.items.specs.Told.{Lent, lent, file_of, file_of_bytes}
+use Rattle.record.specs.Open.{Lent, open_in}
+use Rattle.items.specs.Told.{file_of_bytes}
+use Rattle.items.proofs.Opened.{opened_in_lent, sized_in}
 use Rattle.bound.specs.Listing.{most, reported, Sized, EveryLookup, EveryTable, EveryFile}
 use Rattle.bound.specs.Listing.{Every1024}
 use Rattle.bound.proofs.Paid.{reads, all}
 use Rattle.bound.proofs.Ends.{whole}
 
-opened-size : (s : List ℕ) (n : RecordNumber) (size : ℕ) → open_in s n size ≡ gives tt → length s ≡ size
-unfolding open_in
-opened-size s n size e = grind (arith, nat_tests)
-
 held_sized : (t s : List ℕ) (h : TableHeader) → table_of t ≡ gives h → length s ≡ h.size → Sized s (record_of t)
 held_sized t s h e l w b q = let k = record-sized (sound t h e) w b q in omega arith
 
 pub table_sized : (t s : List ℕ) (n : RecordNumber) (x : Lent) → file_of_bytes t s n ≡ gives x → Sized s (record_of t)
-unfolding file_of_bytes file_of
+unfolding file_of_bytes
 table_sized t s n x e =
-    let k = back (table_of t) (λ h. file_of t h s n) x e in
-    let o = back (open_in s n k.first.size) (λ _. gives (lent t k.first s n)) x k.next in
-    held_sized t s k.first k.gave (opened-size s n k.first.size o.gave)
+    let k = back (table_of t) (λ h. open_in s n h.size) x e in
+    let l = ap (λ (y : Lent). length y.bytes) (opened_in_lent s n x k.first.size (sym k.next)) in
+    held_sized t s k.first k.gave (sym l ∙ sized_in s n x k.first.size (sym k.next))
 
 pub every_lookup : EveryLookup
 every_lookup s n look room z = all s n look room z (whole s n look room)

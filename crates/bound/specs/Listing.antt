@@ -3,10 +3,14 @@
 -- most a + 3e + 2ea attributes and list entries are read (5,173 at 1,024 bytes); the count reported is the
 -- definition's own; the attributes that the walk itself reads in the base record, lookups aside, follow one another
 -- without overlap inside it; and no list entry, told by its list and its place there, gives a part to two items.
-use Rattle.std.specs.Prelude.{◌≡◌, ℕ, suc, ◌+◌, ◌*◌, ◌/◌, ◌≤◌, ◌⊎◌, List, [], ◌∷◌, ◌++◌, map, length, Option, Some}
+use Rattle.std.specs.Prelude.{◌≡◌, ℕ, suc, ◌+◌, ◌*◌, ◌/◌, ◌≤◌, ◌⊎◌, List, [], ◌∷◌, ◌++◌, map, length, false}
+use Rattle.std.specs.Prelude.{Option, Some}
 use Rattle.std.specs.List.{AllByRecursion, Contains}
-use Rattle.fields.specs.Answer.{gives}
+use Rattle.fields.specs.Answer.{Answer, gives, ends, refuses, refusal, Outcome}
+use Rattle.fields.specs.Known.{known_type}
 use Rattle.fields.specs.declared.RecordNumber.{RecordNumber}
+use Rattle.fields.specs.declared.Refusal.{Refusal}
+use Rattle.fields.specs.declared.Cause.TheVariants.{UnknownType, NoAttribute, NoRoom}
 use Rattle.list.specs.declared.Entry.{Entry}
 use Rattle.table.specs.Held.{record_of}
 use Rattle.record.specs.Header.{first_attribute}
@@ -21,9 +25,10 @@ use Rattle.items.specs.declared.File.{File}
 use Rattle.items.specs.declared.walk.Rest.{Rest}
 use Rattle.items.specs.declared.walk.Item.{Item}
 use Rattle.items.specs.declared.walk.State.{State}
+use Rattle.parts.specs.declared.Part.{Part}
 use Rattle.parts.specs.Part.{part_of}
 use Rattle.parts.specs.Parts.{Given, Parts, parts_in, parts_of}
-use Rattle.bound.specs.Replay.{start, Fronts, Replay, onward, Keeps}
+use Rattle.bound.specs.Replay.{start, past, Fronts, Replay, onward, Keeps}
 
 -- a + 3e + 2ea, for m bytes
 abbrev pub most : ℕ → ℕ
@@ -44,9 +49,23 @@ pub record Begun (read : List Read) (w : State) (l : Rest) : Type 0 where
   pub seen : Contains read (entry (spot w.raw l.from) by)
   pub left : w.list ≡ Some (list_at (l.from + by.length) l.to)
 
--- the item's attribute is among what its call read: as one of the walk's own, or as the last of a search
-abbrev pub IsRead : List Read → Item → Type 0
-IsRead reads i = Contains reads (own i.attribute) ⊎ Contains reads (sought i.file i.attribute)
+-- what the search by an entry at a place reads
+abbrev pub searched : List ℕ → RecordNumber → (RecordNumber → Option (List ℕ)) → Entry → ℕ → List Read
+searched s n look e place = map (sought e.file) (sought_of s n look e place).read
+
+-- a call's last reads are an entry and the whole search by it, which answered so
+pub record BySearch (s : List ℕ) (n : RecordNumber) (look : RecordNumber → Option (List ℕ)) (reads : List Read)
+    (a : Outcome Attribute) : Type 0 where
+  pub by : Entry
+  pub at : Spot
+  pub before : List Read
+  pub all : reads ≡ before ++ entry at by ∷ searched s n look by at.place
+  pub answers : (sought_of s n look by at.place).answer ≡ a
+
+-- a refusal that no search gave is told of the base record, and is not 18
+pub record OfBase (n : RecordNumber) (r : Refusal) : Type 0 where
+  pub file : r.file ≡ n
+  pub listed : r.cause ≡ NoAttribute → ⊥
 
 -- a part of a list that ends at `to`, for which `reads` were read: an entry among these stands at its place and leads
 -- to it, and so is the attribute that was found by it
@@ -60,8 +79,41 @@ pub record Leads (s : List ℕ) (n : RecordNumber) (look : RecordNumber → Opti
   pub found : (sought_of s n look by g.place).answer ≡ gives attribute
   pub read : Contains reads (sought by.file attribute)
 
+-- how far the reads went on in a list that parts are asked for by
+abbrev pub parts_left : Rest → List Read → Rest
+parts_left l [] = l
+parts_left l (joined p e ∷ rs) = parts_left (past l e) rs
+parts_left l (own h ∷ rs) = parts_left l rs
+parts_left l (entry x e ∷ rs) = parts_left l rs
+parts_left l (sought f h ∷ rs) = parts_left l rs
+
+-- an entry that ends the parts, or is itself refused: by 20, or by 6 where its type is unknown
+abbrev pub AtEntry : RecordNumber → ℕ → Entry → Outcome Unit → Type 0
+AtEntry n place e (gives u) = Unit {0}
+AtEntry n place e (refuses r) =
+    (r ≡ refusal NoRoom n place) ⊎ ((known_type e.ty ≡ false) × (r ≡ refusal UnknownType n place))
+
+-- why a parts call read no further: no more entry is given; or the last was such an entry; or it was one whose part is
+-- not given, with the whole search for it
+pub data Stopped (s : List ℕ) (n : RecordNumber) (look : RecordNumber → Option (List ℕ)) (l : Rest)
+    (reads : List Read) (a : Outcome Unit) : Type 0 where
+  by_list : ((e : Entry) → Fronts s n look (parts_left l reads) e → ⊥) → Stopped s n look l reads a
+  by_entry : (before : List Read) (place : ℕ) (e : Entry) → reads ≡ before ++ joined place e ∷ []
+      → AtEntry n place e a → Stopped s n look l reads a
+  by_part : (before : List Read) (place : ℕ) (e : Entry)
+      → reads ≡ before ++ joined place e ∷ searched s n look e place
+      → ((p : Part) → part_of s n look e place ≡ gives p → ⊥) → Stopped s n look l reads a
+
 -- one record, its number and one lookup; room k is how many parts are lent for item k, each its own
 module _ (s : List ℕ) (n : RecordNumber) (look : RecordNumber → Option (List ℕ)) (room : ℕ → ℕ) where
+  -- where the answer of a call comes from: an item is one of the walk's own attributes that it read, or what a search
+  -- found; a refusal is the walk's, or a search's
+  abbrev pub From : List Read → Answer Item → Type 0
+  From reads (gives i) =
+      Contains reads (own i.attribute) ⊎ ((x : BySearch s n look reads (gives i.attribute)) × (x.by.file ≡ i.file))
+  From reads ends = Unit {0}
+  From reads (refuses r) = OfBase n r ⊎ BySearch s n look reads (refuses r)
+
   -- a call of `next`
   abbrev pub called : State → Left
   called w = next_of s n look w
@@ -133,8 +185,7 @@ module _ (s : List ℕ) (n : RecordNumber) (look : RecordNumber → Option (List
   -- what holds of every listing and of every call behind it
   pub record Demanded : Type 0 where
     pub reads : (k c : ℕ) (read : List Read) (w : State) → Listed k c read w → ReadSo c read w
-    pub given : (k c : ℕ) (read : List Read) (w : State) (i : Item) → Listed k c read w
-        → (called w).answer ≡ gives i → IsRead (called w).reads i
+    pub answers : (k c : ℕ) (read : List Read) (w : State) → Listed k c read w → From (called w).reads (called w).answer
     pub gave : (k c : ℕ) (read : List Read) (w : State) (i : Item) → Listed k c read w
         → (called w).answer ≡ gives i → AllByRecursion (Gave k w i) (asked k i).given
     pub apart : (i j : ℕ) (x : Spot) → PartBy i x → PartBy j x → i ≡ j
@@ -161,12 +212,16 @@ abbrev pub EveryFile : Type 0
 EveryFile =
     (f : File) (room : ℕ → ℕ) → Demanded f.base.bytes.now f.base.number (record_of f.table.bytes.now) room
 
--- the parts of any list, an item's or not, come by its entries, one for each
+-- the parts of any list, an item's or not, come by its entries, one for each; and it was read until they stopped
+pub record PartsOf (s : List ℕ) (n : RecordNumber) (look : RecordNumber → Option (List ℕ)) (l : Rest) (p : Parts)
+    : Type 0 where
+  pub by_entries : AllByRecursion (Leads s n look l.to p.reads) p.given
+  pub stopped : Stopped s n look l p.reads p.answer
+
 abbrev pub EveryPart : Type 0
 EveryPart =
     (s : List ℕ) (n : RecordNumber) (look : RecordNumber → Option (List ℕ)) (room : ℕ) (l : Rest)
-    → AllByRecursion (Leads s n look l.to (parts_in s n look room (Some l)).reads)
-    (parts_in s n look room (Some l)).given
+    → PartsOf s n look l (parts_in s n look room (Some l))
 
 -- a record of 1,024 bytes
 abbrev pub Every1024 : Type 0

@@ -1,14 +1,14 @@
 -- RULES 17: what it is to read each thing once. Every read stands where the one before of its kind ended.
 use Rattle.std.specs.Prelude.{ℕ, ◌+◌, ◌≡◌, List, [], ◌∷◌, eqb, Option, Some, None, ⊤}
 use Rattle.fields.specs.Pick.{pick}
-use Rattle.fields.specs.Answer.{Answer, gives, ends, refuses}
+use Rattle.fields.specs.Answer.{gives, ends, refuses, Outcome}
 use Rattle.fields.specs.Known.{attribute_list}
 use Rattle.fields.specs.declared.RecordNumber.{RecordNumber}
 use Rattle.list.specs.Entry.{entry_of}
 use Rattle.list.specs.declared.Entry.{Entry}
 use Rattle.record.specs.Header.{first_attribute}
 use Rattle.record.specs.Walk.{step_at}
-use Rattle.record.specs.Told.{Lent}
+use Rattle.record.specs.Open.{Lent}
 use Rattle.record.specs.Value.{list_in}
 use Rattle.record.specs.declared.layout.Attribute.{Attribute}
 use Rattle.record.specs.declared.layout.Span.{Span}
@@ -45,15 +45,13 @@ abbrev pub start : List ℕ → Heads
 start s = heads (first_attribute s) no_list None no_list
 
 -- the list that an attribute opens
-abbrev pub opened : Answer Span → Rest
+abbrev pub opened : Outcome Span → Rest
 opened (gives p) = list_at p.from (p.from + p.bytes)
-opened ends = no_list
 opened (refuses r) = no_list
 
 -- a search begins at the first attribute of the record that was looked up, and goes on by the length
-abbrev pub begins : Answer Lent → Option Search
+abbrev pub begins : Outcome Lent → Option Search
 begins (gives t) = Some (search t (first_attribute t.bytes))
-begins ends = None
 begins (refuses r) = None
 
 abbrev pub goes : Option Search → Attribute → Option Search
@@ -87,7 +85,7 @@ module _ (s : List ℕ) (n : RecordNumber) (look : RecordNumber → Option (List
 
   -- the list that an attribute opens, if it is one that holds a list
   abbrev pub list_of : Attribute → Rest
-  list_of a = opened (pick (eqb a.ty attribute_list) (list_in s n a) ends)
+  list_of a = pick (eqb a.ty attribute_list) (opened (list_in s n a)) no_list
 
   -- behind a read: an attribute may open a list; an entry begins a search, and parts begin at an entry of the walk
   abbrev pub behind : Heads → Read → Heads

@@ -1,7 +1,8 @@
 -- RULES 17, 18: what a listing of a table tells in the end. The table is refused, or its base record is, or it is the
 -- count of that very listing.
 use Rattle.std.specs.Prelude.{◌≡◌, ℕ, List, Some}
-use Rattle.fields.specs.Answer.{gives, refuses, Refused}
+use Rattle.fields.specs.Answer.{gives, refuses}
+use Rattle.fields.specs.declared.Refusal.{Refusal}
 use Rattle.table.specs.Check.{table_of}
 use Rattle.table.specs.Held.{Held, record_of, base_of}
 use Rattle.table.specs.declared.check.TableHeader.{TableHeader}
@@ -24,7 +25,7 @@ pub record Based (t : List ℕ) (b : Held) : Type 0 where
 pub record BaseRefused (t : List ℕ) : Type 0 where
   pub base : Held
   pub based : Based t base
-  pub refusal : Refused
+  pub refusal : Refusal
   pub refused : file_of_bytes t base.bytes base.number ≡ refuses refusal
 
 pub record Reads (t : List ℕ) (c : ℕ) : Type 0 where

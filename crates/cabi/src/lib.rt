@@ -15,7 +15,13 @@ pub struct Filled {
     pub more: bool,
 }
 
-/// `lines::list` for C: each slice is a pointer and a length in bytes, and the two may not overlap.
+// As include/nomutanku.h declares it.
+const _: () = prove!(size_of::<Filled>() == 16);
+
+const _: () = prove!(align_of::<Filled>() == 8);
+
+/// `lines::list` for C, which include/nomutanku.h declares: each slice is a pointer, not null, and a length in bytes,
+/// and the two may not overlap.
 #[unsafe(no_mangle)]
 pub extern "C" fn nomutanku_list(table: &[u8], out: &mut [u8]) -> Filled
     ensures page { Lists (page_of (length out.old) (listing_of most_parts table.now)) out.old out.new

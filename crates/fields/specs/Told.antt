@@ -1,7 +1,6 @@
 -- RULES 2, 19: the number of each cause, and what a call's result says as an answer.
 use Rattle.std.specs.Prelude.{ℕ, Option, Some, None, Result, Ok, Err}
-use Rattle.std.specs.Borrow.{Bor}
-use Rattle.fields.specs.Answer.{Answer, gives, ends, refuses, Refused, refusal, Report, report}
+use Rattle.fields.specs.Answer.{Outcome, Answer, gives, ends, refuses, Report, report}
 use Rattle.fields.specs.declared.Refusal.{Refusal}
 use Rattle.fields.specs.declared.Counted.{Counted}
 use Rattle.fields.specs.declared.Cause.{Cause}
@@ -36,26 +35,22 @@ number_of NoRoom = 20
 number_of BadTable = 21
 number_of BadState = 22
 
--- a refusal as its number, record and place
-abbrev pub said : Refusal → Refused
-said r = refusal (number_of r.cause) r.file r.place
-
 -- what a call says that gives a value or refuses
-abbrev pub told : {A : Type 0} → Result A Refusal → Answer A
+abbrev pub told : {A : Type 0} → Result A Refusal → Outcome A
 told (Ok x) = gives x
-told (Err r) = refuses (said r)
+told (Err r) = refuses r
+
+-- the same, of what is told of the value
+abbrev pub told_as : {A B : Type 0} → (A → B) → Result A Refusal → Outcome B
+told_as f (Ok x) = gives (f x)
+told_as f (Err r) = refuses r
 
 -- what a call says that may end too
 abbrev pub told_step : {A : Type 0} → Result (Option A) Refusal → Answer A
 told_step (Ok (Some x)) = gives x
 told_step (Ok None) = ends
-told_step (Err r) = refuses (said r)
+told_step (Err r) = refuses r
 
 -- what a call says that reports its count
 abbrev pub told_report : {A : Type 0} → Counted A → Report A
 told_report c = report (told c.answer) c.reads
-
--- the bytes that a call hands out a part of, or none
-abbrev pub seen : {A : Type 0} → Option (Bor A) → Option A
-seen (Some x) = Some x.now
-seen None = None

@@ -1,5 +1,5 @@
 //! What holds of the definitions, each law the contract of a function that does nothing.
-ghost use Rattle.fields.specs.Told.{number_of, said, told, told_step, told_report};
+ghost use Rattle.fields.specs.Told.{number_of, told, told_step, told_report};
 ghost use Rattle.fields.specs.Laws.{NumbersSplit, NumbersFit, Settles};
 
 /// What numbers of every width share (RULES 1).
@@ -8,10 +8,9 @@ pub fn numbers_over_the_width()
     ensures fit { NumbersFit }
 {}
 
-/// A number tells its cause, and number, record and place a refusal (RULES 19).
+/// A number tells its cause (RULES 19).
 pub fn refusals_settle()
-    ensures cause { Settles number_of }
-    ensures whole { Settles said }
+    ensures { Settles number_of }
 {}
 
 /// A call whose contract states its answer has one result at most, whatever it gives (RULES 2, 17).

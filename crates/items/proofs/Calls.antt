@@ -1,10 +1,11 @@
 -- The calls of a walk from a state: the call there, and those behind it.
 use Rattle.std.proofs.Common.{ℕ, zero, suc, ◌-◌, ◌<◌, ◌≡◌, List, [], ◌∷◌, length, refl, sym, ap, ◌∙◌, arith}
 use Rattle.std.specs.Prelude.{Option}
-use Rattle.fields.specs.Answer.{Answer, gives, ends, refuses, Refused}
+use Rattle.fields.specs.Answer.{Answer, gives, ends, refuses}
 use Rattle.fields.specs.Told.{told_step}
 use Rattle.fields.specs.Trail.{trail}
 use Rattle.fields.specs.declared.RecordNumber.{RecordNumber}
+use Rattle.fields.specs.declared.Refusal.{Refusal}
 use Rattle.list.specs.Entry.{entry_of}
 use Rattle.record.proofs.Trails as trails
 use Rattle.items.specs.State.{list_at, rest_of, weight}
@@ -70,7 +71,7 @@ module _ (s : List ℕ) (n : RecordNumber) (look : RecordNumber → Option (List
     unfolding items_in answered report_of
     last_end l e g = let a : l.answer ≡ ends = sym (g ∙ ap (λ (x : Reported). x.answer) e) in rw a refl
 
-    last_refusal : (l : Left) (r : Refused) → x ≡ report_of l → refuses r ≡ x.answer
+    last_refusal : (l : Left) (r : Refusal) → x ≡ report_of l → refuses r ≡ x.answer
         → items_in (l ∷ onward s n look (calls_from s n look) l.left l.answer) ≡ refuses r ∷ []
     unfolding items_in answered report_of
     last_refusal l r e g = let a : l.answer ≡ refuses r = sym (g ∙ ap (λ (x : Reported). x.answer) e) in rw a refl
@@ -84,13 +85,13 @@ module _ (s : List ℕ) (n : RecordNumber) (look : RecordNumber → Option (List
       unfolding items_from
       end_next g = ap items_in (called w) ∙ last_end (next_of s n look w) e g
 
-      pub refusal_next : (r : Refused) → refuses r ≡ x.answer → items_from s n look w ≡ refuses r ∷ []
+      pub refusal_next : (r : Refusal) → refuses r ≡ x.answer → items_from s n look w ≡ refuses r ∷ []
       unfolding items_from
       refusal_next r g = ap items_in (called w) ∙ last_refusal (next_of s n look w) r e g
 
 -- a run of calls gives what the walk gives, and leaves the rest of it
 module _ (s : List ℕ) (n : RecordNumber) (look : RecordNumber → Option (List ℕ)) where
-  then_rest : (w : State) (x : Reported) → x ≡ report_of (next_of s n look w) → (a : Answer Item) → a ≡ x.answer
+  pub then_rest : (w : State) (x : Reported) → x ≡ report_of (next_of s n look w) → (a : Answer Item) → a ≡ x.answer
       → answered a (items_from s n look x.left) ≡ items_from s n look w
   unfolding answered
   then_rest w x e (gives i) g = sym (item_next s n look x w e i g)

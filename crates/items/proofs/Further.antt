@@ -3,18 +3,20 @@
 use Rattle.std.proofs.Common.{ℕ, ◌+◌, ◌<◌, ◌≤◌, ◌≡◌, Bool, true, false, List, [], ◌∷◌, length, eqb, refl, arith}
 use Rattle.std.specs.Prelude.{Option, Some, None, IfSome}
 use Rattle.fields.specs.Pick.{pick}
-use Rattle.fields.specs.Answer.{Answer, gives, ends, refuses, refusal}
+use Rattle.fields.specs.Answer.{gives, refuses, refusal, Outcome}
 use Rattle.fields.specs.Known.{known_type, attribute_list}
 use Rattle.fields.specs.declared.RecordNumber.{RecordNumber}
 use Rattle.fields.proofs.Cases.{both}
+use Rattle.fields.specs.declared.Cause.TheVariants.{UnknownType, BadState}
 use Rattle.list.specs.declared.Entry.{Entry}
-use Rattle.record.specs.Attribute.{Inside}
+use Rattle.record.specs.Inside.{Inside}
 use Rattle.record.specs.Value.{list_in}
 use Rattle.record.specs.Walk.{walk_from}
 use Rattle.record.specs.declared.layout.Attribute.{Attribute}
 use Rattle.record.specs.declared.layout.Span.{Span}
 use Rattle.record.proofs.Peel.{peel_raw}
-use Rattle.items.specs.State.{list_at, state, lies_in, Lies}
+use Rattle.items.specs.State.{list_at, state, lies_in}
+use Rattle.items.specs.Lies.{Lies}
 use Rattle.items.specs.Items.{
   Left,
   leaves,
@@ -60,10 +62,9 @@ module _ (m raw from to : ℕ) where
       → Ahead m raw (Some (list_at from to)) (state raw (Some (list_at at to)) key)
   at_rest at l k z key = record { at = omega arith; list = λ e. (l, refl); lies = record { order = k; most = z } }
 
-  by_item : (e : Entry) → from + e.length ≤ to → to ≤ m → (a : Answer Attribute)
+  by_item : (e : Entry) → from + e.length ≤ to → to ≤ m → (a : Outcome Attribute)
       → Ahead m raw (Some (list_at from to)) (item_by raw from to e a).left
   unfolding item_by
-  by_item e l z ends = at_rest (from + e.length) (omega arith) l z None
   by_item e l z (refuses r) = at_rest (from + e.length) (omega arith) l z None
   by_item e l z (gives h) =
       both (λ (x : Left). Ahead m raw (Some (list_at from to)) x.left) h.resident
@@ -95,17 +96,16 @@ module _ (s : List ℕ) (n : RecordNumber) (look : RecordNumber → Option (List
   }
 
   entries_on : (on : Option Key → Left) (raw to : ℕ) → to ≤ length s → ((key : Option Key) → Goes raw None (on key))
-      → (es : List (Answer Entry)) (from : ℕ) (key : Option Key) → from ≤ to → es ≡ entries_of s n to from
+      → (es : List (Outcome Entry)) (from : ℕ) (key : Option Key) → from ≤ to → es ≡ entries_of s n to from
       → Goes raw (Some (list_at from to)) (by_entries s n look on raw to es from key)
   unfolding by_entries
   entries_on on raw to z f [] from key l q = closed raw from to (on key).left (f key)
-  entries_on on raw to z f (ends ∷ es) from key l q = closed raw from to (on key).left (f key)
   entries_on on raw to z f (refuses r ∷ es) from key l q = at_rest (length s) raw from to from (omega arith) l z key
   entries_on on raw to z f (gives x ∷ es) from key l q =
       let p = peel s n to from x es q in let a = p.least in let b = p.most in
       let P : Left → Type 0 = λ (y : Left). Ahead (length s) raw (Some (list_at from to)) y.left in
       both P (known_type x.ty)
-      _ (leaves (refuses (refusal 6 n from)) (state raw (Some (list_at (from + x.length) to)) key))
+      _ (leaves (refuses (refusal UnknownType n from)) (state raw (Some (list_at (from + x.length) to)) key))
       (both P (passed_over n key x) _ _
       (back raw from (from + x.length) to (omega arith) (by_entries s n look on raw to es (from + x.length) key).left
       (entries_on on raw to z f es (from + x.length) key b p.tail))
@@ -119,9 +119,8 @@ module _ (s : List ℕ) (n : RecordNumber) (look : RecordNumber → Option (List
 
   list_on : (on : Option Key → Left) (raw at : ℕ) → raw < at → ((key : Option Key) → Goes at None (on key))
       → (h : Attribute) → Inside s h
-      → (a : Answer Span) → a ≡ list_in s n h → (key : Option Key) → Goes raw None (by_list s n look on at a key)
+      → (a : Outcome Span) → a ≡ list_in s n h → (key : Option Key) → Goes raw None (by_list s n look on at a key)
   unfolding by_list
-  list_on on raw at l f h i ends q key = record { at = omega arith; list = λ e. tt; lies = tt }
   list_on on raw at l f h i (refuses r) q key = record { at = omega arith; list = λ e. tt; lies = tt }
   list_on on raw at l f h i (gives p) q key =
       let r = list_room s n h p i q in
@@ -129,11 +128,10 @@ module _ (s : List ℕ) (n : RecordNumber) (look : RecordNumber → Option (List
       (entries_on on at (p.from + p.bytes) r.most f (entries_of s n (p.from + p.bytes) p.from) p.from key
       (omega arith) refl)
 
-  attributes_on : (hs : List (Answer Attribute)) (raw : ℕ) (key : Option Key) → hs ≡ walk_from s n raw
+  attributes_on : (hs : List (Outcome Attribute)) (raw : ℕ) (key : Option Key) → hs ≡ walk_from s n raw
       → Goes raw None (by_attributes s n look hs raw key)
   unfolding by_attributes
   attributes_on [] raw key q = record { at = omega arith; list = λ e. tt; lies = tt }
-  attributes_on (ends ∷ hs) raw key q = record { at = omega arith; list = λ e. tt; lies = tt }
   attributes_on (refuses r ∷ hs) raw key q = record { at = omega arith; list = λ e. tt; lies = tt }
   attributes_on (gives h ∷ hs) raw key q =
       let p = peel_raw s n raw h hs q in let a = p.least in let b = p.most in
@@ -164,7 +162,7 @@ pub calls_go_on : CallsGoOn
 unfolding next_of next_in
 calls_go_on s n look w =
     by_test (λ (x : Left). Further (length s) w x.left) (lies_in (length s) w.list) (next_in s n look w)
-    (leaves (refuses (refusal 22 n 0)) w)
+    (leaves (refuses (refusal BadState n 0)) w)
     (λ e. let a = by_on s n look w.raw w.list w.key (lies s n w.list e) in record
     { raw = a.at; list = a.list; lies = λ _. a.lies })
     (record { raw = omega arith; list = λ e. same_rests w.list; lies = λ x. x })

@@ -3,8 +3,7 @@ use Rattle.std.proofs.Common.{refl}
 use Rattle.fields.specs.Le.{le}
 use Rattle.fields.specs.Length.{good_length}
 use Rattle.list.specs.Entry.{entry_at, entry_of}
-use Rattle.record.specs.Open.{same, is_file, check_file, open_of}
-use Rattle.record.specs.Told.{opened_of}
+use Rattle.record.specs.Open.{is_file, check_file, open_of}
 use Rattle.record.specs.Attribute.{attribute_at, checked_at}
 use Rattle.record.specs.Walk.{step_at}
 use Rattle.record.specs.Name.{name_in, name_of}
@@ -13,6 +12,6 @@ use Rattle.record.specs.Value.{resident_at, full_in, resident_in, value_after, v
 use Rattle.items.specs.Lines.{BothSides}
 
 pub both_sides : BothSides
-unfolding le same is_file good_length check_file open_of opened_of attribute_at checked_at step_at name_in name_of
+unfolding le is_file good_length check_file open_of attribute_at checked_at step_at name_in name_of
     piece_of resident_at full_in resident_in value_after value_in value_of entry_at entry_of
 both_sides = refl

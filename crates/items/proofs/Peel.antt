@@ -1,6 +1,6 @@
 -- The first of a list's entries stands at its front, and the others are the entries from behind it.
 use Rattle.std.proofs.Common.{ℕ, ◌+◌, ◌≤◌, ◌≡◌, List, ◌∷◌}
-use Rattle.fields.specs.Answer.{Answer, gives}
+use Rattle.fields.specs.Answer.{gives, Outcome}
 use Rattle.fields.specs.declared.RecordNumber.{RecordNumber}
 use Rattle.list.specs.Entry.{entry_of}
 use Rattle.list.specs.declared.Entry.{Entry}
@@ -11,13 +11,13 @@ use Rattle.items.specs.Items.{entries_of}
 use Rattle.items.proofs.Steps.{entry_moves}
 
 module _ (s : List ℕ) (n : RecordNumber) where
-  pub record Listed (to at : ℕ) (e : Entry) (es : List (Answer Entry)) : Type 0 where
+  pub record Listed (to at : ℕ) (e : Entry) (es : List (Outcome Entry)) : Type 0 where
     pub stands : entry_of (rest_of s (list_at at to)) n at ≡ gives e
     pub tail : es ≡ entries_of s n to (at + e.length)
     pub least : 26 ≤ e.length
     pub most : at + e.length ≤ to
 
-  pub peel : (to at : ℕ) (e : Entry) (es : List (Answer Entry)) → gives e ∷ es ≡ entries_of s n to at
+  pub peel : (to at : ℕ) (e : Entry) (es : List (Outcome Entry)) → gives e ∷ es ≡ entries_of s n to at
       → Listed to at e es
   unfolding entries_of
   peel to at e es q =

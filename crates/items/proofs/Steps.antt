@@ -1,15 +1,18 @@
 -- What one step of the walk gives, from any place: each is the walk from where it goes on, or its answer.
-use Rattle.std.proofs.Common.{ℕ, ◌+◌, ◌≡◌, List, [], ◌∷◌, map, true, false, length, refl, sym, ap, ◌∙◌, arith, length-take, length-append}
+use Rattle.std.proofs.Common.{ℕ, ◌+◌, ◌≡◌, List, [], ◌∷◌, map, true, false, length, refl, sym, ap, ◌∙◌, arith}
+use Rattle.std.proofs.Common.{length-take, length-append}
 use Rattle.std.proofs.lemmas.List.{length-map}
 use Rattle.std.specs.Prelude.{Option, Some, None}
-use Rattle.fields.specs.Answer.{Answer, gives, ends, refuses, Refused, refusal, Report}
+use Rattle.fields.specs.Answer.{Answer, gives, ends, refuses, refusal, Report, Outcome}
 use Rattle.fields.specs.Known.{known_type}
 use Rattle.fields.specs.declared.RecordNumber.{RecordNumber}
 use Rattle.fields.proofs.Cases.{yes, no, eq-y, eq-n}
+use Rattle.fields.specs.declared.Refusal.{Refusal}
+use Rattle.fields.specs.declared.Cause.TheVariants.{UnknownType}
 use Rattle.list.specs.Entry.{entry_of}
 use Rattle.list.specs.declared.Entry.{Entry}
 use Rattle.list.proofs.Given as entries
-use Rattle.record.specs.Attribute.{Inside}
+use Rattle.record.specs.Inside.{Inside}
 use Rattle.record.specs.Value.{list_in}
 use Rattle.record.specs.Laws.{ListLies}
 use Rattle.record.specs.Walk.{step_at, walk_from}
@@ -70,7 +73,7 @@ module _ (s : List ℕ) (n : RecordNumber) where
   unfolding entries_of
   no_entry l g = trails.ended _ (λ x. x.length) l.to (entry_moves l.to) l.from g
 
-  pub bad_entry : (l : Rest) (r : Refused) → refuses r ≡ entry_of (rest_of s l) n l.from
+  pub bad_entry : (l : Rest) (r : Refusal) → refuses r ≡ entry_of (rest_of s l) n l.from
       → entries_of s n l.to l.from ≡ refuses r ∷ []
   unfolding entries_of
   bad_entry l r g = trails.refused _ (λ x. x.length) l.to (entry_moves l.to) l.from r g
@@ -123,7 +126,7 @@ module _ (s : List ℕ) (n : RecordNumber) (look : RecordNumber → Option (List
     unfolding next_by by_entries
     list_ended g = is ∙ rw (no_entry s n l g)
 
-    pub list_refused : (r : Refused) → refuses r ≡ entry_of (rest_of s l) n l.from
+    pub list_refused : (r : Refusal) → refuses r ≡ entry_of (rest_of s l) n l.from
         → reported (refuses r) (state raw o key) k ≡ x
     unfolding next_by by_entries
     list_refused r g = ap (λ (q : Option Rest). reported (refuses r) (state raw q key) k) z
@@ -131,7 +134,7 @@ module _ (s : List ℕ) (n : RecordNumber) (look : RecordNumber → Option (List
 
     module _ (e : Entry) (g : gives e ≡ entry_of (rest_of s l) n l.from) where
       pub entry_unknown : known_type e.ty ≡ false
-          → reported (refuses (refusal 6 n l.from)) (state raw (Some (list_at (l.from + e.length) l.to)) key)
+          → reported (refuses (refusal UnknownType n l.from)) (state raw (Some (list_at (l.from + e.length) l.to)) key)
           (k + 1) ≡ x
       unfolding next_by by_entries
       entry_unknown u = sym (is ∙ rw (first_entry s n l e g, u) (last k (read (spot raw l.from) e) _ _))
@@ -168,10 +171,10 @@ module _ (s : List ℕ) (n : RecordNumber) (look : RecordNumber → Option (List
         found = ap (λ (q : Report Attribute). after (k + 1 + q.reads) (item_by raw l.from l.to e q.answer)) d
             ∙ sym (sought u v)
 
-        pub entry_missed : (r : Refused) → refuses r ≡ c.answer
+        pub entry_missed : (r : Refusal) → refuses r ≡ c.answer
             → reported (refuses r) (state raw (Some (list_at (l.from + e.length) l.to)) None) (k + 1 + c.reads) ≡ x
         unfolding item_by
-        entry_missed r q = sym (none _ _ _) ∙ ap (λ (a : Answer Attribute). after (k + 1 + c.reads)
+        entry_missed r q = sym (none _ _ _) ∙ ap (λ (a : Outcome Attribute). after (k + 1 + c.reads)
             (item_by raw l.from l.to e a)) q ∙ found
 
         pub entry_resident : (h : Attribute) → gives h ≡ c.answer → h.resident ≡ true
@@ -179,14 +182,14 @@ module _ (s : List ℕ) (n : RecordNumber) (look : RecordNumber → Option (List
             (k + 1 + c.reads) ≡ x
         unfolding item_by
         entry_resident h q t = sym (none _ _ _) ∙ ap (after (k + 1 + c.reads)) (yes _ _ _ t refl)
-            ∙ ap (λ (a : Answer Attribute). after (k + 1 + c.reads) (item_by raw l.from l.to e a)) q ∙ found
+            ∙ ap (λ (a : Outcome Attribute). after (k + 1 + c.reads) (item_by raw l.from l.to e a)) q ∙ found
 
         pub entry_runs : (h : Attribute) → gives h ≡ c.answer → h.resident ≡ false
             → reported (gives (item e.file h (Some l))) (state raw (Some (list_at (l.from + e.length) l.to))
             (Some (key_of e))) (k + 1 + c.reads) ≡ x
         unfolding item_by
         entry_runs h q t = sym (none _ _ _) ∙ ap (after (k + 1 + c.reads)) (no _ _ _ t refl)
-            ∙ ap (λ (a : Answer Attribute). after (k + 1 + c.reads) (item_by raw l.from l.to e a)) q ∙ found
+            ∙ ap (λ (a : Outcome Attribute). after (k + 1 + c.reads) (item_by raw l.from l.to e a)) q ∙ found
 
   -- with none
   module _ (z : o ≡ None) where
@@ -198,7 +201,7 @@ module _ (s : List ℕ) (n : RecordNumber) (look : RecordNumber → Option (List
     raw_ended g = ap (λ (q : Option Rest). reported ends (state raw q key) k) z
         ∙ sym (is_raw ∙ rw (walks.ended s n raw g) (none k _ _))
 
-    pub raw_refused : (r : Refused) → refuses r ≡ step_at s n raw → reported (refuses r) (state raw o key) k ≡ x
+    pub raw_refused : (r : Refusal) → refuses r ≡ step_at s n raw → reported (refuses r) (state raw o key) k ≡ x
     unfolding next_by by_attributes
     raw_refused r g = ap (λ (q : Option Rest). reported (refuses r) (state raw q key) k) z
         ∙ sym (is_raw ∙ rw (walks.refused s n raw r g) (none k _ _))
@@ -206,7 +209,7 @@ module _ (s : List ℕ) (n : RecordNumber) (look : RecordNumber → Option (List
     module _ (h : Attribute) (g : gives h ≡ step_at s n raw) where
       first : by_attributes s n look (walk_from s n raw) raw key ≡ by_attributes s n look
           (gives h ∷ walk_from s n (raw + h.length)) raw key
-      first = ap (λ (hs : List (Answer Attribute)). by_attributes s n look hs raw key) (walks.moved s n raw h g)
+      first = ap (λ (hs : List (Outcome Attribute)). by_attributes s n look hs raw key) (walks.moved s n raw h g)
 
       gave : (h.ty ≡ 0x20 → ⊥) → next_by s n look raw None key ≡ reading (own h ∷ [])
           (leaves (gives (item n h None)) (state (raw + h.length) None key))
@@ -229,13 +232,13 @@ module _ (s : List ℕ) (n : RecordNumber) (look : RecordNumber → Option (List
       raw_list p u v = is_raw ∙ ap (after k) (opens p u v) ∙ one k (own h)
           (next_by s n look (raw + h.length) (Some (list_at p.from (p.from + p.bytes))) key)
 
-      shut : (r : Refused) → h.ty ≡ 0x20 → refuses r ≡ list_in s n h
+      shut : (r : Refusal) → h.ty ≡ 0x20 → refuses r ≡ list_in s n h
           → next_by s n look raw None key ≡ reading (own h ∷ [])
           (leaves (refuses r) (state (raw + h.length) None key))
       unfolding next_by by_attributes by_list
       shut r u v = first ∙ ap (reading (own h ∷ [])) (sym (eq-y _ _ _ _ u (rw (← v) refl)))
 
-      pub raw_unlisted : (r : Refused) → h.ty ≡ 0x20 → refuses r ≡ list_in s n h
+      pub raw_unlisted : (r : Refusal) → h.ty ≡ 0x20 → refuses r ≡ list_in s n h
           → reported (refuses r) (state (raw + h.length) o key) (k + 1) ≡ x
       raw_unlisted r u v =
           ap (λ (q : Option Rest). reported (refuses r) (state (raw + h.length) q key) (k + 1)) z

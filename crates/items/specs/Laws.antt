@@ -1,50 +1,69 @@
 -- What holds of this chapter whatever the bytes; src/laws.rt has the functions whose contracts these are.
-use Rattle.std.specs.Prelude.{ℕ, ◌-◌, ◌<◌, ◌≤◌, ◌≡◌, List, [], ◌∷◌, length, Option, Some, None, IfOk, IfSome}
-use Rattle.fields.specs.Answer.{Answer, gives, ends}
-use Rattle.fields.specs.Told.{told_step}
+use Rattle.std.specs.Prelude.{ℕ, ◌+◌, ◌-◌, ◌<◌, ◌≤◌, ◌≡◌, ◌⊎◌, List, [], ◌∷◌, true, eqb, length, Option, Some, None}
+use Rattle.std.specs.Prelude.{Result, IfOk, IfSome}
+use Rattle.fields.specs.Pick.{pick}
+use Rattle.fields.specs.Answer.{Outcome, gives, ends, refuses, refusal}
+use Rattle.fields.specs.Known.{known_type, attribute_list}
+use Rattle.fields.specs.declared.Cause.TheVariants.{UnknownType}
+use Rattle.fields.specs.Told.{told_as, told_step}
 use Rattle.fields.specs.Trail.{run}
 use Rattle.fields.specs.declared.RecordNumber.{RecordNumber}
+use Rattle.fields.specs.declared.Refusal.{Refusal}
 use Rattle.fields.specs.declared.Counted.{Counted}
 use Rattle.list.specs.Entry.{entry_of}
 use Rattle.list.specs.declared.Entry.{Entry}
-use Rattle.record.specs.Told as records
-use Rattle.record.specs.Laws.{shown}
+use Rattle.record.specs.Open.{Lent, lent, open_of}
+use Rattle.record.specs.Walk.{step_at, attributes_of}
+use Rattle.record.specs.Value.{list_in}
+use Rattle.record.specs.declared.layout.Span.{Span}
+use Rattle.record.specs.Told.{shown_record}
+use Rattle.record.specs.Laws.{Alike, SameRecord}
 use Rattle.record.specs.Search.{count_of}
 use Rattle.record.specs.declared.layout.Attribute.{Attribute}
 use Rattle.record.specs.declared.values.Located.{Located}
-use Rattle.items.specs.Told.{Lent, lent}
-use Rattle.items.specs.Found.{told_found}
-use Rattle.items.specs.State.{Lies, list_at, rest_of, weight}
-use Rattle.items.specs.Items.{leaves, entries_of, next_of}
+use Rattle.items.specs.Told.{shown_base, told_found}
+use Rattle.items.specs.Lookup.{lookup_of}
+use Rattle.items.specs.State.{list_at, state, rest_of, key_of, weight}
+use Rattle.items.specs.Lies.{Lies}
+use Rattle.items.specs.Items.{leaves, item, entries_of, passed_over, sought_of, next_of}
 use Rattle.items.specs.Walked.{told_next, report_of}
-use Rattle.items.specs.Calls.{calls, calls_from, answered, items_from}
-use Rattle.items.specs.OfFile.{looked_up, sought_by}
+use Rattle.items.specs.Calls.{calls, calls_from, answered, items_from, items_of}
+use Rattle.items.specs.OfFile.{of_file}
 use Rattle.items.specs.declared.File.{File}
 use Rattle.items.specs.declared.walk.Rest.{Rest}
+use Rattle.items.specs.declared.walk.Key.{Key}
 use Rattle.items.specs.declared.walk.State.{State}
 use Rattle.items.specs.declared.walk.Item.{Item}
 use Rattle.items.specs.declared.walk.Walked.{Walked}
 
--- a file shows its bytes, the table's numbers and the base's number; what was found its record and the attribute
-abbrev pub shown_file : File → Lent
-shown_file f = lent f.table.bytes.now f.table.header f.base.bytes.now f.base.number
+-- files with the same base record, and the same table
+abbrev pub SameFile : File → File → Type 0
+SameFile x y =
+    SameRecord x.base y.base × (x.table.bytes.now ≡ y.table.bytes.now) × (x.table.header ≡ y.table.header)
 
-pub record Shown : Type 0 where
-  pub within : records.Lent
-  pub attribute : Attribute
+-- what opening a file over a table's bytes promises, both clauses of it
+pub record Opens (a : Outcome Lent) (t : List ℕ) (r : Result File Refusal) : Type 0 where
+  pub answer : told_as shown_base r ≡ a
+  pub table : IfOk r (λ f. f.table.bytes.now ≡ t)
 
-abbrev pub shown_found : Located → Shown
-shown_found l = record { within = records.lent l.within.bytes.now l.within.number; attribute = l.attribute }
+-- RULES 2: two openings of one answer are alike
+abbrev pub OpeningsSettle : Type 0
+OpeningsSettle = (a : Outcome Lent) (t : List ℕ) (r q : Result File Refusal) → Opens a t r → Opens a t q
+    → Alike SameFile r q
 
--- what a search by an entry says, both clauses of it
+-- attributes that were found, with their records
+abbrev pub SameFound : Located → Located → Type 0
+SameFound x y = SameRecord x.within y.within × (x.attribute ≡ y.attribute)
+
+-- what a search by an entry promises, both clauses of it
 pub record Sought (f : File) (e : Entry) (place : ℕ) (c : Counted Located) : Type 0 where
-  pub answer : told_found c ≡ count_of (sought_by f e place)
-  pub within : IfOk c.answer (λ l. looked_up f e.file place ≡ gives (records.lent l.within.bytes.now l.within.number))
+  pub answer : told_found c ≡ count_of (of_file sought_of f e place)
+  pub within : IfOk c.answer (λ l. of_file lookup_of f e.file place ≡ gives (shown_record l.within))
 
--- RULES 2, 17: two searches by one entry show the same, and count the same
+-- RULES 2, 17: two searches by one entry are alike, and count the same
 abbrev pub SoughtSettle : Type 0
 SoughtSettle = (f : File) (e : Entry) (place : ℕ) (c d : Counted Located) → Sought f e place c → Sought f e place d
-    → (shown shown_found c.answer ≡ shown shown_found d.answer) × (c.reads ≡ d.reads)
+    → Alike SameFound c.answer d.answer × (c.reads ≡ d.reads)
 
 module _ (s : List ℕ) (n : RecordNumber) (look : RecordNumber → Option (List ℕ)) where
   -- results of calls of next, one behind the other: each from the state that the one before left
@@ -53,7 +72,7 @@ module _ (s : List ℕ) (n : RecordNumber) (look : RecordNumber → Option (List
   Called w (r ∷ rs) = (told_next r ≡ report_of (next_of s n look w)) × Called r.left rs
 
   -- what they give, and then what the walk gives from where they left it
-  unfoldable pub given_by : State → List Walked → List (Answer Item)
+  unfoldable pub given_by : State → List Walked → List (Outcome Item)
   given_by w [] = items_from s n look w
   given_by w (r ∷ rs) = answered (told_step r.answer) (given_by r.left rs)
 
@@ -70,8 +89,7 @@ Rests None (Some l) = ⊥
 Rests (Some k) (Some l) = (k.from ≤ l.from) × (l.to ≡ k.to)
 
 -- a walk of a record of m bytes stood at w, and now stands at v: no raw attribute is given again, and of the open
--- list no entry; and its
--- list lies inside the record
+-- list no entry; and its list lies inside the record
 pub record Further (m : ℕ) (w v : State) : Type 0 where
   pub raw : w.raw ≤ v.raw
   pub list : v.raw ≡ w.raw → Rests w.list v.list
@@ -102,3 +120,84 @@ CallsEnd = (s : List ℕ) (n : RecordNumber) (look : RecordNumber → Option (Li
 abbrev pub EntriesEnd : Type 0
 EntriesEnd = (s : List ℕ) (n : RecordNumber) (from to f : ℕ) → to - from < f
     → run (λ at. entry_of (rest_of s (list_at at to)) n at) (λ e. e.length) f from ≡ entries_of s n to from
+
+-- RULES 14: the items of a file told at once, with no calls and no states: those of its raw attributes, one behind the
+-- other, with each list replaced by what its entries give. The skip key goes along, out of one list and into the next;
+-- a refusal is the last.
+module _ (s : List ℕ) (n : RecordNumber) (look : RecordNumber → Option (List ℕ)) where
+  -- an attribute that an entry led to, and what follows with the key that it leaves: a non-resident one tells the list
+  -- from its entry on
+  unfoldable pub found_gives : Entry → Rest → (Option Key → List (Outcome Item)) → Outcome Attribute
+      → List (Outcome Item)
+  found_gives e l on (refuses r) = refuses r ∷ []
+  found_gives e l on (gives h) =
+      pick h.resident (gives (item e.file h None) ∷ on None) (gives (item e.file h (Some l)) ∷ on (Some (key_of e)))
+
+  -- the entries of a list that ends at `to`, from a place on, and what follows behind it
+  unfoldable pub entries_give : (Option Key → List (Outcome Item)) → ℕ → List (Outcome Entry) → ℕ → Option Key
+      → List (Outcome Item)
+  entries_give on to [] from key = on key
+  entries_give on to (refuses r ∷ es) from key = refuses r ∷ []
+  entries_give on to (gives e ∷ es) from key =
+      pick (known_type e.ty)
+      (pick (passed_over n key e)
+      (entries_give on to es (from + e.length) key)
+      (found_gives e (list_at from to) (entries_give on to es (from + e.length)) (sought_of s n look e from).answer))
+      (refuses (refusal UnknownType n from) ∷ [])
+
+  unfoldable pub list_gives : (Option Key → List (Outcome Item)) → Outcome Span → Option Key → List (Outcome Item)
+  list_gives on (refuses r) key = refuses r ∷ []
+  list_gives on (gives p) key =
+      entries_give on (p.from + p.bytes) (entries_of s n (p.from + p.bytes) p.from) p.from key
+
+  unfoldable pub attributes_give : List (Outcome Attribute) → Option Key → List (Outcome Item)
+  attributes_give [] key = []
+  attributes_give (refuses r ∷ hs) key = refuses r ∷ []
+  attributes_give (gives h ∷ hs) key =
+      pick (eqb h.ty attribute_list) (list_gives (attributes_give hs) (list_in s n h) key)
+      (gives (item n h None) ∷ attributes_give hs key)
+
+abbrev pub ItemsOfAttributes : Type 0
+ItemsOfAttributes = (s : List ℕ) (n : RecordNumber) (look : RecordNumber → Option (List ℕ))
+    → items_of s n look ≡ attributes_give s n look (attributes_of s n) None
+
+-- RULES 14.7: the skip key outlives the list. A call at a list's end is the call without a list, with that key
+abbrev pub KeysOutliveLists : Type 0
+KeysOutliveLists = (s : List ℕ) (n : RecordNumber) (look : RecordNumber → Option (List ℕ)) (raw : ℕ) (l : Rest)
+    (key : Option Key) → Lies (length s) l → entry_of (rest_of s l) n l.from ≡ ends
+    → next_of s n look (state raw (Some l) key) ≡ next_of s n look (state raw None key)
+
+module _ (s : List ℕ) (n : RecordNumber) (look : RecordNumber → Option (List ℕ)) (i : Item) where
+  -- an item of the raw walk
+  pub record OwnItem : Type 0 where
+    pub file : i.file ≡ n
+    pub stands : step_at s n i.attribute.offset ≡ gives i.attribute
+    pub rest : i.rest ≡ None
+
+  -- an item found by an entry; it tells the list from its entry on, if it is non-resident
+  pub record EntryItem : Type 0 where
+    pub by : Entry
+    pub list : Rest
+    pub stands : entry_of (rest_of s list) n list.from ≡ gives by
+    pub known : known_type by.ty ≡ true
+    pub file : i.file ≡ by.file
+    pub found : (sought_of s n look by list.from).answer ≡ gives i.attribute
+    pub rest : i.rest ≡ pick i.attribute.resident None (Some list)
+
+  -- the record of an item found again: a lookup of its number gives it, whatever place is blamed, and the item's
+  -- attribute stands there at its offset
+  pub record FoundAgain (place : ℕ) : Type 0 where
+    pub within : Lent
+    pub opened : lookup_of s n look i.file place ≡ gives within
+    pub stands : step_at within.bytes within.number i.attribute.offset ≡ gives i.attribute
+
+-- RULES 14: an item comes by a raw attribute or by an entry
+abbrev pub ItemsCome : Type 0
+ItemsCome = (s : List ℕ) (n : RecordNumber) (look : RecordNumber → Option (List ℕ)) (w : State) (i : Item)
+    → (next_of s n look w).answer ≡ gives i → OwnItem s n look i ⊎ EntryItem s n look i
+
+-- RULES 11, 14: and so its record is found again, in a file that was opened
+abbrev pub ItemsAreFoundAgain : Type 0
+ItemsAreFoundAgain = (s : List ℕ) (n : RecordNumber) (look : RecordNumber → Option (List ℕ)) (w : State) (i : Item)
+    (place : ℕ) → open_of s n ≡ gives (lent s n) → (next_of s n look w).answer ≡ gives i
+    → FoundAgain s n look i place

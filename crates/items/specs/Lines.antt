@@ -1,14 +1,16 @@
 -- RULES 20: both sides of each line, as one table: a question of these definitions, the bytes that it is asked of,
 -- and what is to be answered.
 use Rattle.std.specs.Prelude.{ℕ, ◌-◌, ◌≡◌, List, [], ◌∷◌, ◌++◌, map, length, drop, replicate}
-use Rattle.fields.specs.Answer.{Answer, gives, ends, refuses, refusal, ◌⟫◌}
+use Rattle.fields.specs.Answer.{Outcome, Answer, gives, ends, refuses, refusal, unended}
+use Rattle.fields.specs.declared.Cause.{Cause}
+use Rattle.fields.specs.declared.Cause.TheVariants.{AttributeCut, AttributeShort, AttributeLong, NameOffset}
+use Rattle.fields.specs.declared.Cause.TheVariants.{ValueEnd, EntryShort, EntryNameCut}
 use Rattle.fields.specs.declared.RecordNumber.{RecordNumber}
 use Rattle.list.specs.Entry.{entry_of}
-use Rattle.record.specs.Open.{FILE}
+use Rattle.record.specs.Open.{FILE, Lent, open_of}
 use Rattle.record.specs.Walk.{step_at}
 use Rattle.record.specs.Name.{name_of}
 use Rattle.record.specs.Value.{value_of}
-use Rattle.record.specs.Told.{opened_of}
 
 -- a raw step, a name or a value of a record that is opened first; or an entry
 pub data Ask : Type 0 where
@@ -42,15 +44,20 @@ verdict (gives x) = gives tt
 verdict ends = ends
 verdict (refuses r) = refuses r
 
+-- of a record that is opened first
+abbrev pub behind_opening : {A : Type 0} → Outcome Lent → Answer A → Answer Unit
+behind_opening (gives x) a = verdict a
+behind_opening (refuses r) a = refuses r
+
 abbrev pub answer_to : Ask → List ℕ → ℕ → Answer Unit
-answer_to step s p = verdict (opened_of s number ⟫ λ _. step_at s number p)
-answer_to name s p = verdict (opened_of s number ⟫ λ _. name_of s number p)
-answer_to value s p = verdict (opened_of s number ⟫ λ _. value_of s number p)
+answer_to step s p = behind_opening (open_of s number) (step_at s number p)
+answer_to name s p = behind_opening (open_of s number) (unended (name_of s number p))
+answer_to value s p = behind_opening (open_of s number) (unended (value_of s number p))
 answer_to entry s p = verdict (entry_of (drop p s) number p)
 
--- a refusal by number, in record 40, at a place
-abbrev pub refused : ℕ → ℕ → Answer Unit
-refused n p = refuses (refusal n number p)
+-- a refusal in record 40, at a place
+abbrev pub refused : Cause → ℕ → Answer Unit
+refused c p = refuses (refusal c number p)
 
 -- a resident attribute's first bytes: type 16, a length, then name units, name offset, value length and value offset
 abbrev pub attribute : ℕ → ℕ → ℕ → List ℕ → ℕ → List ℕ
@@ -71,22 +78,22 @@ abbrev pub rows : List Row
 rows =
     -- length 16 accepted, 15 gives 4; 16 bytes left with length 17 gives 5
     row step 96 56 (attribute 16 0 0 none 0) (gives tt)
-    ∷ row step 96 56 (attribute 15 0 0 none 0) (refused 4 56)
-    ∷ row step 72 56 (16 ∷ 0 ∷ 0 ∷ 0 ∷ 17 ∷ []) (refused 5 56)
+    ∷ row step 96 56 (attribute 15 0 0 none 0) (refused AttributeShort 56)
+    ∷ row step 72 56 (16 ∷ 0 ∷ 0 ∷ 0 ∷ 17 ∷ []) (refused AttributeLong 56)
     -- 4 bytes left holding type 16 gives 3; 3 bytes left: the end
-    ∷ row step 64 60 (16 ∷ []) (refused 3 60)
+    ∷ row step 64 60 (16 ∷ []) (refused AttributeCut 60)
     ∷ row step 64 61 (16 ∷ []) ends
     -- name offset 32, one unit, in length 32 gives 8; value offset 32, length 0, in 32 accepted
-    ∷ row name 96 56 (attribute 32 1 32 none 0) (refused 8 56)
+    ∷ row name 96 56 (attribute 32 1 32 none 0) (refused NameOffset 56)
     ∷ row value 96 56 (attribute 32 0 0 none 32) (gives tt)
     -- value offset 24, length 4,294,967,295 gives 11
-    ∷ row value 96 56 (attribute 32 0 0 most 24) (refused 11 56)
+    ∷ row value 96 56 (attribute 32 0 0 most 24) (refused ValueEnd 56)
     -- entry length 28 with one name unit accepted, 27 gives 15; entry length 40, no name, with 32 left: the end
     ∷ row entry 96 64 (entry_bytes 28 1) (gives tt)
-    ∷ row entry 96 64 (entry_bytes 27 1) (refused 15 64)
+    ∷ row entry 96 64 (entry_bytes 27 1) (refused EntryShort 64)
     ∷ row entry 96 64 (entry_bytes 40 0) ends
     -- 26 left, length 28, one unit gives 16
-    ∷ row entry 96 70 (entry_bytes 28 1) (refused 16 70)
+    ∷ row entry 96 70 (entry_bytes 28 1) (refused EntryNameCut 70)
     ∷ []
 
 -- each question is answered so

@@ -1,27 +1,9 @@
 -- RULES 13: where a walk stands, what it passes over, and check 22.
-use Rattle.std.specs.Prelude.{
-  ℕ,
-  suc,
-  ◌+◌,
-  ◌-◌,
-  ◌*◌,
-  ◌≤◌,
-  ◌&&◌,
-  List,
-  Bool,
-  true,
-  false,
-  take,
-  drop,
-  eqb,
-  ltb,
-  length,
-  Option,
-  Some,
-  None,
-}
+use Rattle.std.specs.Prelude.{ℕ, suc, ◌+◌, ◌-◌, ◌*◌, ◌&&◌, List, Bool, true, false, take, drop, eqb, leb, length}
+use Rattle.std.specs.Prelude.{Option, Some, None}
 use Rattle.fields.specs.Pick.{pick}
-use Rattle.fields.specs.Answer.{Answer, gives, refuses, refusal}
+use Rattle.fields.specs.Answer.{Outcome, gives, refuses, refusal}
+use Rattle.fields.specs.declared.Cause.TheVariants.{BadState}
 use Rattle.fields.specs.declared.RecordNumber.{RecordNumber}
 use Rattle.record.specs.Header.{first_attribute}
 use Rattle.list.specs.declared.Entry.{Entry}
@@ -43,18 +25,15 @@ fresh_of s = state (first_attribute s) None None
 abbrev pub rest_of : List ℕ → Rest → List ℕ
 rest_of s l = take (l.to - l.from) (drop l.from s)
 
--- a list that lies inside a record of m bytes
-pub record Lies (m : ℕ) (l : Rest) : Type 0 where
-  pub order : l.from ≤ l.to
-  pub most : l.to ≤ m
-
--- 22 is for a list that ends before it begins, or behind the record. Without a list there is nothing to test
+-- a list begins at or before its end, and ends at or before that of a record of m bytes; where none is open there is
+-- nothing to test
 unfoldable pub lies_in : ℕ → Option Rest → Bool
 lies_in m None = true
-lies_in m (Some l) = pick (ltb l.to l.from) false (pick (ltb m l.to) false true)
+lies_in m (Some l) = leb l.from l.to && leb l.to m
 
-unfoldable pub inside_of : List ℕ → RecordNumber → Option Rest → Answer Unit
-inside_of s n o = pick (lies_in (length s) o) (gives tt) (refuses (refusal 22 n 0))
+-- check 22
+unfoldable pub inside_of : List ℕ → RecordNumber → Option Rest → Outcome Unit
+inside_of s n o = pick (lies_in (length s) o) (gives tt) (refuses (refusal BadState n 0))
 
 -- whether an entry has the skip key's type and instance
 unfoldable pub agrees : Option Key → Entry → Bool

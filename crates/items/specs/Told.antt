@@ -1,31 +1,25 @@
--- What opening a file says: RULES 10 and 3, in the order 21, 1, 2.
-use Rattle.std.specs.Prelude.{ℕ, List, Result, Ok, Err}
-use Rattle.fields.specs.Answer.{Answer, gives, refuses, ◌⟫◌}
-use Rattle.fields.specs.Told.{said}
+-- What opening a file says: 21, then 1 and 2 (RULES 3, 10); and what a search says that hands out the attribute with
+-- its record (RULES 12).
+use Rattle.std.specs.Prelude.{ℕ, List}
+use Rattle.fields.specs.Answer.{Outcome, Report, report, ◌⟫◌}
+use Rattle.fields.specs.Told.{told_as}
 use Rattle.fields.specs.declared.RecordNumber.{RecordNumber}
-use Rattle.fields.specs.declared.Refusal.{Refusal}
-use Rattle.record.specs.Open.{open_in}
-use Rattle.record.specs.Told as records
+use Rattle.fields.specs.declared.Counted.{Counted}
 use Rattle.table.specs.Check.{table_of}
-use Rattle.table.specs.Told as tables
-use Rattle.table.specs.declared.check.TableHeader.{TableHeader}
+use Rattle.record.specs.Open.{open_in}
+use Rattle.record.specs.Told.{shown_record, attribute_of}
+use Rattle.record.specs.declared.layout.Attribute.{Attribute}
+use Rattle.record.specs.declared.values.Located.{Located}
 use Rattle.items.specs.declared.File.{File}
+pub use Rattle.record.specs.Open.{Lent}
 
-pub record Lent : Type 0 where
-  pub base : records.Lent
-  pub table : tables.Lent
+-- of the bytes of a table and of a base record
+unfoldable pub file_of_bytes : List ℕ → List ℕ → RecordNumber → Outcome Lent
+file_of_bytes t s n = table_of t ⟫ λ h. open_in s n h.size
 
-abbrev pub lent : List ℕ → TableHeader → List ℕ → RecordNumber → Lent
-lent t h s n = record { base = records.lent s n; table = tables.lent t h }
+-- a file's base record, which is told beside its table
+abbrev pub shown_base : File → Lent
+shown_base f = shown_record f.base
 
--- 1, also for another length than the table's records have, then 2, of a base record lent with a table that passed 21
-unfoldable pub file_of : List ℕ → TableHeader → List ℕ → RecordNumber → Answer Lent
-file_of t h s n = open_in s n h.size ⟫ λ _. gives (lent t h s n)
-
--- of the bytes of both: 21 first
-unfoldable pub file_of_bytes : List ℕ → List ℕ → RecordNumber → Answer Lent
-file_of_bytes t s n = table_of t ⟫ λ h. file_of t h s n
-
-abbrev pub told_file : Result File Refusal → Answer Lent
-told_file (Ok f) = gives (lent f.table.bytes.now f.table.header f.base.bytes.now f.base.number)
-told_file (Err r) = refuses (said r)
+abbrev pub told_found : Counted Located → Report Attribute
+told_found c = report (told_as attribute_of c.answer) c.reads

@@ -7,13 +7,14 @@ use fields::{Cause, Counted, known_type};
 impl<'a> File<'a> {
     ghost use Rattle.std.specs.Prelude.{◌≡◌};
     ghost use Rattle.fields.specs.Told.{told_report};
-    ghost use Rattle.items.specs.OfFile.{first_by};
+    ghost use Rattle.items.specs.First.{first_of};
+    ghost use Rattle.items.specs.OfFile.{of_file};
 
     /// The first item of a type, from fresh on: 6 at an item of unknown type, 18 at 0 in the base record where the
     /// walk ends without one, and the walk's own refusals.
     #[tactic(auto, using(crate::proofs::Firsts::firsts))]
     pub fn first_of(&self, ty: u32) -> Counted<Item>
-        ensures { told_report result ≡ first_by self.now ty }
+        ensures { told_report result ≡ of_file first_of self.now ty }
     {
         // A loop and no `for` over `items`: the reads of each call count, of one that refuses or ends too.
         let mut at = self.fresh();

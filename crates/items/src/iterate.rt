@@ -14,7 +14,7 @@ pub struct Items<'a> {
 impl<'a> Iterator for Items<'a> {
     ghost use Rattle.std.specs.Iterator.{item_count, YieldsFirstBy};
     ghost use Rattle.fields.specs.Told.{told};
-    ghost use Rattle.items.specs.Calls.{rest};
+    ghost use Rattle.items.specs.Rest.{rest};
 
     type Item = Result<Item, Refusal>;
 

@@ -91,14 +91,18 @@ impl<'a> File<'a> {
     ghost use Rattle.std.specs.Prelude.{◌≡◌, ◌*◌, ◌≤◌, length, Some, IfOk, IfSome};
     ghost use Rattle.fields.specs.Answer.{gives};
     ghost use Rattle.fields.specs.Told.{told};
-    ghost use Rattle.record.specs.Laws.{shown_record};
+    ghost use Rattle.record.specs.Told.{shown_record};
     ghost use Rattle.record.specs.Search.{count_of};
-    ghost use Rattle.items.specs.State.{fresh_of, inside_of, Lies};
-    ghost use Rattle.items.specs.Items.{passed_over};
-    ghost use Rattle.items.specs.Found.{told_found};
-    ghost use Rattle.items.specs.Calls.{rest};
-    ghost use Rattle.items.specs.OfFile.{size_of, looked_up, sought_by, walked, walked_inside, items_by};
-    ghost use Rattle.items.specs.Walked.{told_next, report_of, Lowers, Paid};
+    ghost use Rattle.items.specs.State.{fresh_of, inside_of};
+    ghost use Rattle.items.specs.Lies.{Lies};
+    ghost use Rattle.items.specs.Told.{told_found};
+    ghost use Rattle.items.specs.Lookup.{lookup_of};
+    ghost use Rattle.items.specs.Items.{passed_over, sought_of, next_in, next_of};
+    ghost use Rattle.items.specs.Calls.{items_of};
+    ghost use Rattle.items.specs.Rest.{rest};
+    ghost use Rattle.items.specs.OfFile.{of_file};
+    ghost use Rattle.items.specs.Walked.{told_next, report_of};
+    ghost use Rattle.items.specs.Bounds.{size_of, Lowers, Paid};
 
     /// A walk that begins.
     pub fn fresh(&self) -> State
@@ -127,8 +131,9 @@ impl<'a> File<'a> {
     #[inline(always)]
     #[tactic(auto, unfolding(crate::specs::Items::sought_of, crate::specs::Items::found_in))]
     pub fn sought(&self, e: &Entry, place: usize) -> Counted<Located<'a>>
-        ensures answer { told_found result ≡ count_of (sought_by self.now e.now place) }
-        ensures within { IfOk result.answer (λ l. looked_up self.now e.now.file place ≡ gives (shown_record l.within)) }
+        ensures answer { told_found result ≡ count_of (of_file sought_of self.now e.now place) }
+        ensures within { IfOk result.answer
+            (λ l. of_file lookup_of self.now e.now.file place ≡ gives (shown_record l.within)) }
         ensures few { 16 * result.reads ≤ size_of self.now }
     {
         let miss = Refusal {
@@ -160,7 +165,7 @@ impl<'a> File<'a> {
     #[tactic(auto, using(crate::proofs::Steps::steps))]
     fn next_inside(&self, from: State) -> Walked
         requires { IfSome from.list (Lies (size_of self.now)) }
-        ensures answer { told_next result ≡ report_of (walked_inside self.now from) }
+        ensures answer { told_next result ≡ report_of (of_file next_in self.now from) }
         ensures lower { Lowers (size_of self.now) from result }
         ensures paid { Paid (size_of self.now) from result }
     {
@@ -246,10 +251,10 @@ impl<'a> File<'a> {
         }
     }
 
-    /// The next item, the end or a refusal: 22, then the steps. Any state may be lent.
+    /// The next item, the end or a refusal: 22, then the steps. Any state may be handed in.
     #[tactic(auto, using(crate::proofs::Bounds::insides))]
     pub fn next(&self, from: State) -> Walked
-        ensures answer { told_next result ≡ report_of (walked self.now from) }
+        ensures answer { told_next result ≡ report_of (of_file next_of self.now from) }
         ensures lower { Lowers (size_of self.now) from result }
         ensures paid { Paid (size_of self.now) from result }
     {
@@ -268,7 +273,7 @@ impl<'a> File<'a> {
     pub fn items(&self) -> Items<'a>
         ensures file { result.file ≡ self.now }
         ensures state { result.state ≡ Some (fresh_of self.now.base.bytes.now) }
-        ensures items { rest result ≡ items_by self.now }
+        ensures items { rest result ≡ of_file items_of self.now }
     {
         Items {
             file: *self,

@@ -2,8 +2,8 @@
 use Rattle.std.proofs.Common.{ℕ, ◌≡◌, List, [], ◌∷◌, ◌++◌, true, length, take, refl, sym, ap, ◌∙◌}
 use Rattle.fields.proofs.Cases.{not-true}
 use Rattle.parts.specs.declared.Part.{Part}
-use Rattle.lines.specs.Line.{Line, lines_text}
-use Rattle.lines.specs.Told.{told_line}
+use Rattle.lines.specs.Line.{lines_text}
+use Rattle.lines.specs.declared.line.Line.{Line}
 use Rattle.lines.specs.Rest.{rest}
 use Rattle.lines.specs.Page.{none}
 use Rattle.lines.specs.Laws.{
@@ -24,7 +24,7 @@ use Rattle.lines.proofs.Whole.{page_all, none_lost}
 
 calls : {ps : List Part} {l : Lines} {xs : List Line} → Calls ps l xs → rest ps l ≡ xs
 calls (last ps qs l m g) = g.0
-calls (again ps qs l m x xs g c) = g ∙ ap (λ (ys : List Line). told_line x ∷ ys) (calls c)
+calls (again ps qs l m x xs g c) = g ∙ ap (λ (ys : List Line). x ∷ ys) (calls c)
 
 pub calls_tell : CallsTell
 calls_tell t ps l xs e c = sym (calls c) ∙ e

@@ -6,7 +6,7 @@ use Rattle.fields.specs.declared.RecordNumber.{RecordNumber}
 use Rattle.items.specs.declared.walk.Item.{Item}
 use Rattle.items.specs.declared.walk.State.{State}
 use Rattle.parts.specs.declared.Part.{Part}
-use Rattle.lines.specs.Line.{Line}
+use Rattle.lines.specs.declared.line.Line.{Line}
 use Rattle.lines.specs.Listing.{lines_after, lines_run}
 use Rattle.lines.specs.Rest.{walk_rest, part_lines}
 use Rattle.lines.specs.Page.{none}

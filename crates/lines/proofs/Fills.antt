@@ -24,7 +24,8 @@ use Rattle.std.proofs.Common.{
 use Rattle.fields.proofs.Cases.{lt-y, lt-n}
 use Rattle.text.specs.Put.{Put}
 use Rattle.text.proofs.Puts.{further}
-use Rattle.lines.specs.Line.{Line, line_text}
+use Rattle.lines.specs.Line.{line_text}
+use Rattle.lines.specs.declared.line.Line.{Line}
 use Rattle.lines.specs.Page.{Page, page, page_by, page_of, Pages}
 
 -- the lines so far stand in front; the lines to come make the same page from there on

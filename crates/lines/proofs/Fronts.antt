@@ -21,7 +21,7 @@ use Rattle.std.proofs.Common.{
 }
 use Rattle.std.proofs.lemmas.List.{take_more_set}
 use Rattle.std.specs.Prelude.{slice_set}
-use Rattle.fields.specs.Answer.{Answer}
+use Rattle.fields.specs.Answer.{Outcome}
 use Rattle.fields.specs.Told.{told}
 use Rattle.parts.specs.Parts.{Given, Parts}
 use Rattle.parts.specs.Filled.{put, Told, told_parts, filled}
@@ -68,6 +68,6 @@ module _ (p : Parts) (before after : List Part) (r : Filled) (f : filled after r
   pub said : r.count ≤ length before → (size : ℕ) → size ≡ first_size (take r.count after)
       → parted (told r.answer) r.count size ≡ parts_contents p
   said h size e =
-      ap (λ (a : Answer Unit). parted a r.count size) answered
+      ap (λ (a : Outcome Unit). parted a r.count size) answered
       ∙ ap (λ (k : ℕ). parted p.answer k size) count
       ∙ ap (parted p.answer (length p.given)) (e ∙ ap first_size (front h))

@@ -5,3 +5,5 @@ pub mod Ends
 pub mod Fills
 pub mod Whole
 pub mod Calls
+pub mod Endings
+pub mod Said

@@ -29,7 +29,8 @@ use Rattle.std.proofs.lemmas.List.{take_rest}
 use Rattle.std.specs.Io.KnownBytes.{Appends, Keeps}
 use Rattle.std.proofs.KnownBytes.{Appends-trans, Appends-nil, Appends-kept}
 use Rattle.text.specs.Put.{Put}
-use Rattle.lines.specs.Line.{Line, line_text, lines_text}
+use Rattle.lines.specs.Line.{line_text, lines_text}
+use Rattle.lines.specs.declared.line.Line.{Line}
 use Rattle.lines.specs.Went.{Went, StopsWithin}
 
 -- a write that took n bytes, and one that failed

@@ -23,7 +23,8 @@ use Rattle.std.proofs.Common.{
 use Rattle.std.specs.Prelude.{ltb}
 use Rattle.std.proofs.Math.Seq.{take-append_seam}
 use Rattle.fields.proofs.Cases.{both, not-true}
-use Rattle.lines.specs.Line.{Line, line_text, lines_text}
+use Rattle.lines.specs.Line.{line_text, lines_text}
+use Rattle.lines.specs.declared.line.Line.{Line}
 use Rattle.lines.specs.Page.{Page, page, page_by, page_of, none, Pages}
 
 -- its text and the text of what is left are the text of the lines

@@ -1,4 +1,4 @@
--- Items and parts of an opened file.
+-- Items and parts of an opened file, as the functions that make a line speak of them.
 use Rattle.std.specs.Prelude.{ℕ, ◌≡◌, ◌≤◌, List, length, take, Option}
 use Rattle.table.specs.Held.{record_of}
 use Rattle.items.specs.declared.File.{File}
@@ -6,7 +6,8 @@ use Rattle.items.specs.declared.walk.Item.{Item}
 use Rattle.items.specs.declared.walk.Rest.{Rest}
 use Rattle.parts.specs.Parts.{Parts}
 use Rattle.parts.specs.declared.Part.{Part}
-use Rattle.lines.specs.Line.{Line, Contents}
+use Rattle.lines.specs.declared.line.Contents.{Contents}
+use Rattle.lines.specs.declared.line.Line.{Line}
 use Rattle.lines.specs.Listing.{contents_from, item_line, given_parts}
 
 abbrev pub line_in : ℕ → File → Item → Line
@@ -15,17 +16,9 @@ line_in room f i = item_line room f.base.bytes.now f.base.number (record_of f.ta
 abbrev pub contents_in : ℕ → File → Option Rest → Contents → Contents
 contents_in room f l v = contents_from room f.base.bytes.now f.base.number (record_of f.table.bytes.now) l v
 
--- bounds on reads, so that sums of them fit; not the least ones. The parts of an item read at most 257 for each byte
--- of a list; a call of the walk with its parts reads at most so many for each that it takes off what is left; and a
--- listing begins with at most 8,192 left
+-- the parts of an item read at most 257 for each byte of a list
 abbrev pub most_of_parts : ℕ
 most_of_parts = 1052672
-
-abbrev pub most_at_once : ℕ
-most_at_once = 1052929
-
-abbrev pub most_in_all : ℕ
-most_in_all = 8625594368
 
 -- an item's parts stand in front of a list that was `before`: how many they are, and what was read for them
 pub record Reads (p : Parts) (before after : List Part) (count k : ℕ) : Type 0 where

@@ -1,12 +1,11 @@
 -- Theorems on whole listings: calls one after another tell all of a listing and nothing else.
 use Rattle.std.specs.Prelude.{ℕ, ◌≡◌, List, [], ◌∷◌, ◌++◌, true, length, take, None, Some}
 use Rattle.parts.specs.declared.Part.{Part}
-use Rattle.lines.specs.Line.{Line, lines_text}
-use Rattle.lines.specs.Told.{told_line}
+use Rattle.lines.specs.Line.{lines_text}
 use Rattle.lines.specs.Listing.{listing_of}
 use Rattle.lines.specs.Rest.{rest, Gives}
 use Rattle.lines.specs.Page.{page_of, none, Pages, Lists}
-use Rattle.lines.specs.declared.line.Line as declared
+use Rattle.lines.specs.declared.line.Line.{Line}
 use Rattle.lines.specs.declared.fill.Listed.{Listed}
 use Rattle.lines.specs.declared.Lines.{Lines}
 
@@ -14,8 +13,8 @@ use Rattle.lines.specs.declared.Lines.{Lines}
 -- it
 pub data Calls : List Part → Lines → List Line → Type 0 where
   last : (ps qs : List Part) (l m : Lines) → Gives ps l None qs m → Calls ps l []
-  again : (ps qs : List Part) (l m : Lines) (x : declared.Line) (xs : List Line) → Gives ps l (Some x) qs m
-      → Calls qs m xs → Calls ps l (told_line x ∷ xs)
+  again : (ps qs : List Part) (l m : Lines) (x : Line) (xs : List Line) → Gives ps l (Some x) qs m
+      → Calls qs m xs → Calls ps l (x ∷ xs)
 
 -- calls of `fill` with the text that they left in buffers of any length, until no line is to come
 pub data Filled : List Part → Lines → List ℕ → Type 0 where

@@ -1,7 +1,8 @@
--- The listing in a lent buffer: as many lines as it has room for.
+-- RULES 18.6: the listing in a lent buffer: as many lines as it has room for.
 use Rattle.std.specs.Prelude.{ℕ, ◌-◌, ◌≤◌, ◌≡◌, Bool, true, false, not, List, [], ◌∷◌, ◌++◌, ltb, length, drop}
 use Rattle.fields.specs.Pick.{pick}
-use Rattle.lines.specs.Line.{Line, line_text, most_line}
+use Rattle.lines.specs.Line.{line_text, most_line}
+use Rattle.lines.specs.declared.line.Line.{Line}
 use Rattle.lines.specs.declared.fill.Listed.{Listed}
 
 -- whether there are no lines

@@ -1,22 +1,18 @@
 -- What a listing that is being made has still to give.
 use Rattle.std.specs.Prelude.{ℕ, ◌≡◌, MatchOption, List, [], ◌∷◌, ◌++◌, map, take, drop, length, Option, None, Some}
+use Rattle.std.specs.Prelude.{option_to_list}
 use Rattle.table.specs.Held.{record_of}
 use Rattle.items.specs.declared.File.{File}
 use Rattle.items.specs.declared.walk.State.{State}
 use Rattle.parts.specs.declared.Part.{Part}
-use Rattle.lines.specs.Line.{Line, part_line}
-use Rattle.lines.specs.Told.{told_line}
 use Rattle.lines.specs.Listing.{lines_run}
-use Rattle.lines.specs.declared.line.Line as declared
+use Rattle.lines.specs.declared.line.Line.{Line}
+use Rattle.lines.specs.declared.line.Line.TheVariants as line
 use Rattle.lines.specs.declared.walk.Walk.{Walk}
 use Rattle.lines.specs.declared.Lines.{Lines}
 
-abbrev pub line_of : Option declared.Line → List Line
-line_of None = []
-line_of (Some l) = told_line l ∷ []
-
 abbrev pub part_lines : List Part → List Line
-part_lines ps = map (λ p. part_line p) ps
+part_lines ps = map (λ p. line.Part p) ps
 
 -- the lines of at most f calls of a file's walk, after k reads
 abbrev pub run_in : ℕ → File → ℕ → ℕ → State → List Line
@@ -27,13 +23,12 @@ walk_rest room None = []
 walk_rest room (Some w) = run_in room w.file w.calls w.reads w.state
 
 -- a first line; the parts of the item before that are not shown yet, which stand in a lent list; what the walk
--- gives; and
--- a last line
+-- gives; and a last line
 abbrev pub rest : List Part → Lines → List Line
-rest ps l = line_of l.first ++ (part_lines (drop l.shown (take l.count ps)) ++
-    (walk_rest (length ps) l.walk ++ line_of l.last))
+rest ps l = option_to_list l.first ++ (part_lines (drop l.shown (take l.count ps)) ++
+    (walk_rest (length ps) l.walk ++ option_to_list l.last))
 
 -- what a call gives: a line, and what comes behind it; or that none is to come, now and later
-abbrev pub Gives : List Part → Lines → Option declared.Line → List Part → Lines → Type 0
+abbrev pub Gives : List Part → Lines → Option Line → List Part → Lines → Type 0
 Gives ps l r qs m =
-    MatchOption r ((rest ps l ≡ []) × (rest qs m ≡ [])) (λ x. rest ps l ≡ told_line x ∷ rest qs m)
+    MatchOption r ((rest ps l ≡ []) × (rest qs m ≡ [])) (λ x. rest ps l ≡ x ∷ rest qs m)

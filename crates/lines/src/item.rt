@@ -1,9 +1,9 @@
 //! The line of an item (RULES 18.3, 18.4).
 ghost use Rattle.std.specs.Prelude.{◌≡◌, Some, length};
-ghost use Rattle.record.specs.Told.{told_record};
+ghost use Rattle.fields.specs.Told.{told_as};
+ghost use Rattle.record.specs.Told.{shown_record};
 ghost use Rattle.record.specs.View.{span};
 ghost use Rattle.parts.specs.OfFile.{parts_of_file};
-ghost use Rattle.lines.specs.Told.{told_name, told_contents, told_line};
 ghost use Rattle.lines.specs.Listing.{name_in, value_in, first_size, parts_contents};
 ghost use Rattle.lines.specs.InFile.{line_in, contents_in, Reads};
 
@@ -49,12 +49,12 @@ fn span_of(view: View) -> Span
 
 impl Name {
     ghost use Rattle.std.specs.Prelude.{◌≡◌};
-    ghost use Rattle.record.specs.Told.{told_view};
-    ghost use Rattle.lines.specs.Told.{told_name};
+    ghost use Rattle.fields.specs.Told.{told_as};
+    ghost use Rattle.record.specs.Told.{piece};
     ghost use Rattle.lines.specs.Listing.{named};
 
     fn of(name: Result<View, Refusal>) -> Name
-        ensures { told_name result ≡ named (told_view name.entry) }
+        ensures { result ≡ named (told_as piece name.entry) }
     {
         match name {
             Ok(view) => Name::At(span_of(view)),
@@ -65,13 +65,12 @@ impl Name {
 
 impl Contents {
     ghost use Rattle.std.specs.Prelude.{◌≡◌};
-    ghost use Rattle.fields.specs.Told.{told};
-    ghost use Rattle.record.specs.Told.{told_value};
-    ghost use Rattle.lines.specs.Told.{told_contents};
+    ghost use Rattle.fields.specs.Told.{told, told_as};
+    ghost use Rattle.record.specs.Told.{shown_value};
     ghost use Rattle.lines.specs.Listing.{valued, parted};
 
     fn of(value: Result<Value, Refusal>) -> Contents
-        ensures { told_contents result ≡ valued (told_value value.entry) }
+        ensures { result ≡ valued (told_as shown_value value.entry) }
     {
         match value {
             Ok(Value::Resident(view)) => Contents::Resident(span_of(view)),
@@ -85,7 +84,7 @@ impl Contents {
 
     // Of parts, the first one's data size in bytes.
     fn of_parts(answer: Result<(), Refusal>, count: usize, size: u64) -> Contents
-        ensures { told_contents result ≡ parted (told answer) count size }
+        ensures { result ≡ parted (told answer) count size }
     {
         match answer {
             Ok(()) => Contents::Parts { count, size },
@@ -98,8 +97,8 @@ impl Contents {
 }
 
 fn places_in(looked: &Result<Record, Refusal>, at: usize) -> Places
-    ensures name { told_name result.name ≡ name_in (told_record looked.now) at }
-    ensures value { told_contents result.value ≡ value_in (told_record looked.now) at }
+    ensures name { result.name ≡ name_in (told_as shown_record looked.now) at }
+    ensures value { result.value ≡ value_in (told_as shown_record looked.now) at }
 {
     match looked {
         Ok(within) => Places {
@@ -123,7 +122,7 @@ fn first_size(parts: &[Part]) -> u64
 }
 
 fn read_parts(file: &File, rest: Rest, parts: &mut [Part]) -> Read
-    ensures contents { told_contents result.contents ≡
+    ensures contents { result.contents ≡
         parts_contents (parts_of_file file.now (length parts.old) (Some rest)) }
     ensures reads { Reads (parts_of_file file.now (length parts.old) (Some rest)) parts.old parts.new
         result.count result.reads }
@@ -139,8 +138,7 @@ fn read_parts(file: &File, rest: Rest, parts: &mut [Part]) -> Read
 
 #[tactic(auto, unfolding(parts::specs::Parts::parts_of, parts::specs::Parts::parts_in, items::specs::State::lies_in))]
 fn read_contents(file: &File, value: Contents, rest: Option<Rest>, parts: &mut [Part]) -> Read
-    ensures contents { told_contents result.contents ≡
-        contents_in (length parts.old) file.now rest (told_contents value) }
+    ensures contents { result.contents ≡ contents_in (length parts.old) file.now rest value }
     ensures reads { Reads (parts_of_file file.now (length parts.old) rest) parts.old parts.new
         result.count result.reads }
 {
@@ -157,7 +155,7 @@ fn read_contents(file: &File, value: Contents, rest: Option<Rest>, parts: &mut [
 /// The line of an item; its parts are written to the front of the lent list.
 #[tactic(auto, unfolding(crate::specs::Listing::item_line))]
 pub fn item_line(file: &File, item: &Item, parts: &mut [Part]) -> Told
-    ensures line { told_line result.line ≡ line_in (length parts.old) file.now item.now }
+    ensures line { result.line ≡ line_in (length parts.old) file.now item.now }
     ensures reads { Reads (parts_of_file file.now (length parts.old) item.now.rest) parts.old parts.new
         result.count result.reads }
 {

@@ -2,6 +2,7 @@
 //! writer.
 #![tactic(auto)]
 
+mod ending;
 mod fill;
 mod item;
 pub mod laws;
@@ -11,12 +12,13 @@ mod put;
 mod walk;
 mod write;
 
+pub use ending::Ending;
 pub use fill::{Listed, list};
 pub use line::{AttributeLine, Contents, Line, Name};
 use parts::Part;
 pub use put::put_line;
 pub use walk::Walk;
-pub use write::write_listing;
+pub use write::{write_all, write_listing, write_record_of, write_table};
 
 /// The lines of a listing that are still to come. No memory is allocated: the parts of the last item stand in a list
 /// that the caller lends, and lends again to the next call as this one left it.

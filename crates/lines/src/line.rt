@@ -3,7 +3,6 @@ ghost use Rattle.std.specs.Prelude.{◌≡◌, Some, [], ◌∷◌};
 ghost use Rattle.fields.specs.Told.{number_of};
 ghost use Rattle.text.specs.Decimal.{numbers, words};
 ghost use Rattle.lines.specs.Line.{name_text, contents_text, part_numbers, line_text};
-ghost use Rattle.lines.specs.Told.{told_name, told_contents, told_line};
 
 use fields::{Cause, RecordNumber};
 use parts::Part;
@@ -53,6 +52,7 @@ pub enum Line {
     End { reads: u64 },
     Stopped { cause: Cause, reads: u64 },
     TableRefused,
+    NoRecord,
 }
 
 #[derive(Clone, Copy)]
@@ -100,7 +100,7 @@ impl fmt::Display for Five {
 }
 
 impl fmt::Display for Name {
-    ghost output = { λ n. Some (name_text (told_name n)) };
+    ghost output = { λ n. Some (name_text n) };
 
     fn fmt<W: fmt::Write>(&self, f: &mut fmt::Formatter<W>) -> fmt::Result {
         match *self {
@@ -111,7 +111,7 @@ impl fmt::Display for Name {
 }
 
 impl fmt::Display for Contents {
-    ghost output = { λ c. Some (contents_text (told_contents c)) };
+    ghost output = { λ c. Some (contents_text c) };
 
     fn fmt<W: fmt::Write>(&self, f: &mut fmt::Formatter<W>) -> fmt::Result {
         match *self {
@@ -136,12 +136,11 @@ impl fmt::Display for Contents {
 
 impl AttributeLine {
     ghost use Rattle.std.specs.Prelude.{◌≡◌};
-    ghost use Rattle.lines.specs.Told.{told_attribute};
     ghost use Rattle.lines.specs.Line.{attribute_numbers};
 
     // The five numbers behind its first word, for `Five` and for put_words: one place has their order for both.
     pub fn numbers(&self) -> [u64; 5]
-        ensures { result ≡ attribute_numbers (told_attribute self.now) }
+        ensures { result ≡ attribute_numbers self.now }
     {
         [
             self.file.0,
@@ -167,7 +166,7 @@ pub fn part_numbers(part: &Part) -> [u64; 5]
 }
 
 impl fmt::Display for Line {
-    ghost output = { λ l. Some (line_text (told_line l)) };
+    ghost output = { λ l. Some (line_text l) };
 
     fn fmt<W: fmt::Write>(&self, f: &mut fmt::Formatter<W>) -> fmt::Result {
         match *self {
@@ -187,6 +186,7 @@ impl fmt::Display for Line {
                 writeln!(f, "stopped {} reads {reads}", cause.number())
             }
             Line::TableRefused => writeln!(f, "table refused {}", Cause::BadTable.number()),
+            Line::NoRecord => writeln!(f, "table refused {}", Cause::NoRecord.number()),
         }
     }
 }

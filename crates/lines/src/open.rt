@@ -1,12 +1,10 @@
-//! Where a listing begins (RULES 18.1, 18.2).
+//! Where a listing begins (RULES 18.1, 18.2, 18.8).
 ghost use Rattle.std.specs.Prelude.{◌≡◌, ℕ, List, Some, [], ◌∷◌, length};
 ghost use Rattle.table.specs.Held.{record_of, base_of};
-ghost use Rattle.table.specs.Told.{lent};
 ghost use Rattle.items.specs.State.{fresh_of};
-ghost use Rattle.lines.specs.Line.{table_refused};
 ghost use Rattle.lines.specs.Listing.{walk_lines, base_lines, table_lines, listing_of};
-ghost use Rattle.lines.specs.Rest.{walk_rest};
-ghost use Rattle.lines.specs.Rest.{rest};
+ghost use Rattle.lines.specs.Numbered.{table_listing, record_lines, record_listing};
+ghost use Rattle.lines.specs.Rest.{walk_rest, rest};
 ghost use Rattle.parts.specs.declared.Part.{Part};
 
 use crate::{Line, Lines, Walk};
@@ -17,10 +15,10 @@ use table::Table;
 /// The most bytes of a table whose listing is made from its bytes.
 pub const MOST_TABLE: usize = 65_536;
 
-fn refused<'a>() -> Lines<'a>
-    ensures { (ps : List Part) → rest ps result ≡ table_refused ∷ [] }
+fn only<'a>(line: Line) -> Lines<'a>
+    ensures { (ps : List Part) → rest ps result ≡ line ∷ [] }
 {
-    Lines::start(None, None, Some(Line::TableRefused))
+    Lines::start(None, None, Some(line))
 }
 
 #[tactic(auto, unfolding(crate::specs::Listing::walk_lines, items::specs::State::fresh_of))]
@@ -40,7 +38,7 @@ fn walk_of<'a>(file: File<'a>) -> Walk<'a>
 
 #[tactic(auto, unfolding(crate::specs::Listing::base_lines, crate::specs::Listing::opened_lines))]
 fn begin_base<'a>(table: Table<'a>, number: RecordNumber, bytes: &'a [u8]) -> Lines<'a>
-    ensures { (ps : List Part) → rest ps result ≡ base_lines (length ps) (lent table.entry.bytes.now table.entry.header)
+    ensures { (ps : List Part) → rest ps result ≡ base_lines (length ps) table.entry.bytes.now table.entry.header
         (Some (record { number = number; bytes = bytes.now })) }
 {
     let first = Some(Line::Record {
@@ -61,38 +59,66 @@ fn begin_base<'a>(table: Table<'a>, number: RecordNumber, bytes: &'a [u8]) -> Li
 
 #[tactic(auto, unfolding(crate::specs::Listing::base_lines, crate::specs::Listing::table_lines))]
 fn begin_table<'a>(table: Table<'a>) -> Lines<'a>
-    ensures { (ps : List Part) → rest ps result ≡ table_lines (length ps) (lent table.entry.bytes.now table.entry.header) }
+    ensures { (ps : List Part) → rest ps result ≡ table_lines (length ps) table.entry.bytes.now table.entry.header }
 {
     match table.base() {
         Some((number, bytes)) => begin_base(table, number, bytes),
-        None => refused(),
+        None => only(Line::TableRefused),
     }
 }
 
-#[tactic(auto, unfolding(crate::specs::Listing::listing_of, crate::specs::Listing::checked_lines))]
+#[tactic(auto, unfolding(crate::specs::Listing::checked_lines))]
+fn begin_bytes<'a>(table: &'a [u8]) -> Lines<'a>
+    ensures { (ps : List Part) → rest ps result ≡ table_listing (length ps) table.now }
+{
+    match Table::check(table) {
+        Ok(table) => begin_table(table),
+        Err(_) => only(Line::TableRefused),
+    }
+}
+
+#[tactic(auto, unfolding(crate::specs::Listing::listing_of))]
 fn begin<'a>(table: &'a [u8]) -> Lines<'a>
     ensures { (ps : List Part) → rest ps result ≡ listing_of (length ps) table.now }
 {
     if MOST_TABLE < table.len() {
-        return refused();
+        return only(Line::TableRefused);
     }
+    begin_bytes(table)
+}
+
+#[tactic(auto, unfolding(crate::specs::Numbered::found_lines))]
+fn begin_record<'a>(table: Table<'a>, number: RecordNumber) -> Lines<'a>
+    ensures { (ps : List Part) → rest ps result ≡
+        record_lines (length ps) table.entry.bytes.now table.entry.header number }
+{
+    match table.get(number) {
+        Some(bytes) => begin_base(table, number, bytes),
+        None => only(Line::NoRecord),
+    }
+}
+
+#[tactic(auto, unfolding(crate::specs::Numbered::numbered_lines))]
+fn begin_record_in<'a>(table: &'a [u8], number: RecordNumber) -> Lines<'a>
+    ensures { (ps : List Part) → rest ps result ≡ record_listing (length ps) table.now number }
+{
     match Table::check(table) {
-        Ok(table) => begin_table(table),
-        Err(_) => refused(),
+        Ok(table) => begin_record(table, number),
+        Err(_) => only(Line::TableRefused),
     }
 }
 
 impl<'a> Lines<'a> {
-    ghost use Rattle.std.specs.Prelude.{◌≡◌, ◌++◌, List, length};
-    ghost use Rattle.table.specs.Told.{lent};
+    ghost use Rattle.std.specs.Prelude.{◌≡◌, ◌++◌, List, length, option_to_list};
     ghost use Rattle.parts.specs.declared.Part.{Part};
     ghost use Rattle.lines.specs.Listing.{table_lines, listing_of};
-    ghost use Rattle.lines.specs.Rest.{line_of, walk_rest, rest};
+    ghost use Rattle.lines.specs.Numbered.{table_listing, record_lines, record_listing};
+    ghost use Rattle.lines.specs.Rest.{walk_rest, rest};
 
     // A listing before its first line.
     fn start(first: Option<Line>, walk: Option<Walk<'a>>, last: Option<Line>) -> Lines<'a>
         ensures { (ps : List Part) →
-            rest ps result ≡ line_of first ++ (walk_rest (length ps) walk.entry ++ line_of last) }
+            rest ps result ≡ option_to_list first ++ (walk_rest (length ps) walk.entry ++ option_to_list last) }
     {
         Lines {
             first,
@@ -106,7 +132,7 @@ impl<'a> Lines<'a> {
     /// The listing of a table, with room for as many parts as the list that is lent to each call.
     pub fn of(table: &Table<'a>) -> Lines<'a>
         ensures { (ps : List Part) →
-            rest ps result ≡ table_lines (length ps) (lent table.now.bytes.now table.now.header) }
+            rest ps result ≡ table_lines (length ps) table.now.bytes.now table.now.header }
     {
         begin_table(*table)
     }
@@ -116,5 +142,28 @@ impl<'a> Lines<'a> {
         ensures { (ps : List Part) → rest ps result ≡ listing_of (length ps) table.now }
     {
         begin(table)
+    }
+
+    /// The same of bytes of any number.
+    pub fn of_bytes(table: &'a [u8]) -> Lines<'a>
+        ensures { (ps : List Part) → rest ps result ≡ table_listing (length ps) table.now }
+    {
+        begin_bytes(table)
+    }
+
+    /// The listing of the record with a number in a table, with a base row or without one: 17 is its only line where
+    /// no row has the number.
+    pub fn of_record(table: &Table<'a>, number: RecordNumber) -> Lines<'a>
+        ensures { (ps : List Part) →
+            rest ps result ≡ record_lines (length ps) table.now.bytes.now table.now.header number }
+    {
+        begin_record(*table, number)
+    }
+
+    /// The same of bytes of any number: 21 is its only line where they are no table.
+    pub fn of_record_in(table: &'a [u8], number: RecordNumber) -> Lines<'a>
+        ensures { (ps : List Part) → rest ps result ≡ record_listing (length ps) table.now number }
+    {
+        begin_record_in(table, number)
     }
 }

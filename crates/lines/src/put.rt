@@ -1,10 +1,12 @@
 //! The text of a line, put at a place of a lent buffer.
 // Beside `Display`, by the same definition: through `Display` a listing takes more than three times as long. The
 // buffer and where its text ends are two for the reason in text.
-ghost use Rattle.std.specs.Prelude.{◌+◌, ◌≤◌, length};
+ghost use Rattle.std.specs.Prelude.{◌+◌, ◌≤◌, length, [], ◌∷◌, ◌++◌};
+ghost use Rattle.fields.specs.Told.{number_of};
+ghost use Rattle.text.specs.Decimal.{words};
 ghost use Rattle.text.specs.Put.{Put};
-ghost use Rattle.lines.specs.Line.{most_line, spaced, name_text, contents_text, attribute_text, part_text, line_text};
-ghost use Rattle.lines.specs.Told.{told_name, told_contents, told_attribute, told_line};
+ghost use Rattle.lines.specs.Line.{most_line, newline, spaced, name_text, contents_text, attribute_text, part_text};
+ghost use Rattle.lines.specs.Line.{line_text};
 
 use crate::line::part_numbers;
 use crate::{AttributeLine, Contents, Line, Name};
@@ -14,7 +16,7 @@ use text::{put_byte, put_words};
 
 fn put_name(out: &mut [u8], at: usize, name: Name) -> usize
     requires { at + 55 ≤ length out.old }
-    ensures { Put out.old at out.new result (spaced (name_text (told_name name))) 55 }
+    ensures { Put out.old at out.new result (spaced (name_text name)) 55 }
 {
     match name {
         Name::At(span) => put_words(out, at, b" name", &[span.from as u64, span.bytes as u64]),
@@ -24,7 +26,7 @@ fn put_name(out: &mut [u8], at: usize, name: Name) -> usize
 
 fn put_contents(out: &mut [u8], at: usize, contents: Contents) -> usize
     requires { at + 79 ≤ length out.old }
-    ensures { Put out.old at out.new result (spaced (contents_text (told_contents contents))) 79 }
+    ensures { Put out.old at out.new result (spaced (contents_text contents)) 79 }
 {
     match contents {
         Contents::Resident(span) => put_words(
@@ -57,7 +59,7 @@ fn put_contents(out: &mut [u8], at: usize, contents: Contents) -> usize
 
 fn put_attribute(out: &mut [u8], at: usize, a: &AttributeLine) -> usize
     requires { at + most_line ≤ length out.old }
-    ensures { Put out.old at out.new result (attribute_text (told_attribute a.now)) most_line }
+    ensures { Put out.old at out.new result (attribute_text a.now) most_line }
 {
     let end = put_words(out, at, b"attr", &a.numbers());
     let end = put_name(out, end, a.name);
@@ -73,11 +75,19 @@ fn put_part(out: &mut [u8], at: usize, part: &Part) -> usize
     put_byte(out, end, b'\n')
 }
 
+fn put_refused(out: &mut [u8], at: usize, cause: Cause) -> usize
+    requires { at + most_line ≤ length out.old }
+    ensures { Put out.old at out.new result (words "table refused" (number_of cause ∷ []) ++ newline) most_line }
+{
+    let end = put_words(out, at, b"table refused", &[u64::from(cause.number())]);
+    put_byte(out, end, b'\n')
+}
+
 /// Puts the text of a line behind a buffer's first bytes, of which there are `at`; answers where it ends.
 #[inline(always)]
 pub fn put_line(out: &mut [u8], at: usize, line: &Line) -> usize
     requires { at + most_line ≤ length out.old }
-    ensures { Put out.old at out.new result (line_text (told_line line.now)) most_line }
+    ensures { Put out.old at out.new result (line_text line.now) most_line }
 {
     match line {
         Line::Attribute(a) => put_attribute(out, at, a),
@@ -96,10 +106,7 @@ pub fn put_line(out: &mut [u8], at: usize, line: &Line) -> usize
             let end = put_words(out, end, b" reads", &[*reads]);
             put_byte(out, end, b'\n')
         }
-        Line::TableRefused => {
-            let number = Cause::BadTable.number();
-            let end = put_words(out, at, b"table refused", &[u64::from(number)]);
-            put_byte(out, end, b'\n')
-        }
+        Line::TableRefused => put_refused(out, at, Cause::BadTable),
+        Line::NoRecord => put_refused(out, at, Cause::NoRecord),
     }
 }

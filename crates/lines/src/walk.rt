@@ -1,7 +1,7 @@
 //! A walk whose lines are told.
 ghost use Rattle.std.specs.Prelude.{◌≤◌, ◌<◌, ◌+◌, ◌*◌, length};
 ghost use Rattle.items.specs.State.{weight};
-ghost use Rattle.lines.specs.InFile.{most_at_once, most_in_all};
+ghost use Rattle.lines.specs.Bounds.{most_at_once, most_in_all};
 
 use crate::Line;
 use crate::item::item_line;
@@ -33,14 +33,13 @@ pub struct Stepped {
 impl<'a> Walk<'a> {
     ghost use Rattle.std.specs.Prelude.{◌≡◌, ◌≤◌, [], ◌∷◌, ◌++◌, take, length, Some};
     ghost use Rattle.fields.specs.Pick.{pick};
-    ghost use Rattle.lines.specs.Told.{told_line};
     ghost use Rattle.lines.specs.Rest.{walk_rest, part_lines};
 
     /// The next line of a walk: an item's, whose parts are written to the lent list, or the last.
     #[tactic(auto, unfolding(crate::specs::Listing::lines_run, items::specs::Walked::report_of))]
     pub fn step(&mut self, parts: &mut [Part]) -> Stepped
         ensures lines { walk_rest (length parts.old) (Some self.old) ≡
-            told_line result.line ∷ (part_lines (take result.count parts.new)
+            result.line ∷ (part_lines (take result.count parts.new)
             ++ pick result.last [] (walk_rest (length parts.old) (Some self.new))) }
         ensures fits { result.count ≤ length parts.old }
         ensures size { length parts.new ≡ length parts.old }

@@ -1,8 +1,9 @@
 -- A call for parts: check 22, and then the parts by its list, if it has one.
 use Rattle.std.proofs.Common.{ℕ, ◌≡◌, List, sym, refl, ◌∙◌}
 use Rattle.std.specs.Prelude.{Option, None}
-use Rattle.fields.specs.Answer.{gives, refuses, Refused}
+use Rattle.fields.specs.Answer.{gives, refuses}
 use Rattle.fields.specs.declared.RecordNumber.{RecordNumber}
+use Rattle.fields.specs.declared.Refusal.{Refusal}
 use Rattle.items.specs.State.{inside_of}
 use Rattle.items.specs.declared.walk.Rest.{Rest}
 use Rattle.items.proofs.Bounds.{passed, outside_by, lies_inside}
@@ -25,7 +26,7 @@ module _ (s : List ℕ) (n : RecordNumber) (look : RecordNumber → Option (List
   call_unlisted e = call_inside None (tells xs 0 (gives tt) 0) e
       (nothing s n look room xs (record { from = 0; to = 0 }) (gives tt))
 
-  pub call_outside : (o : Option Rest) (r : Refused) → refuses r ≡ inside_of s n o
+  pub call_outside : (o : Option Rest) (r : Refusal) → refuses r ≡ inside_of s n o
       → tells xs 0 (refuses r) 0 ≡ called o
   unfolding parts_of
   call_outside o r e = let w = outside_by s n o r e in nothing s n look room xs (record { from = 0; to = 0 })

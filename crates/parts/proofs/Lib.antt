@@ -4,3 +4,4 @@ pub mod Calls
 pub mod Puts
 pub mod Rooms
 pub mod Settled
+pub mod Some

@@ -23,10 +23,11 @@ use Rattle.std.proofs.lemmas.Bool.Decides.{nat_tests}
 use borrow.Author.Tests.{lt-ltb}
 use Rattle.std.specs.Prelude.{Option, Some, None}
 use Rattle.fields.specs.Pick.{pick}
-use Rattle.fields.specs.Answer.{Answer, gives, ends, refuses, refusal}
+use Rattle.fields.specs.Answer.{gives, refuses, refusal, Outcome}
 use Rattle.fields.specs.Known.{known_type}
 use Rattle.fields.specs.declared.RecordNumber.{RecordNumber}
 use Rattle.fields.proofs.Cases.{both}
+use Rattle.fields.specs.declared.Cause.TheVariants.{UnknownType, NoRoom, BadState}
 use Rattle.list.specs.declared.Entry.{Entry}
 use Rattle.items.specs.State.{lies_in, key_of}
 use Rattle.items.specs.Items.{entries_of}
@@ -43,36 +44,33 @@ by_test : (P : Parts → Type 0) (b : Bool) (x y : Parts) → (b ≡ true → P 
 by_test P true x y f q = f refl
 by_test P false x y f q = q
 
-giving_fits : (place room : ℕ) (a : Answer Part) (p : Parts) → 0 < room → length p.given ≤ room - 1
+giving_fits : (place room : ℕ) (a : Outcome Part) (p : Parts) → 0 < room → length p.given ≤ room - 1
     → length (giving place a p).given ≤ room
 unfolding giving
 giving_fits place room (gives x) p l f = omega arith
-giving_fits place room ends p l f = omega arith
 giving_fits place room (refuses r) p l f = omega arith
 
 module _ (s : List ℕ) (n : RecordNumber) (look : RecordNumber → Option (List ℕ)) where
-  fits_by : (key : Key) (room : ℕ) (es : List (Answer Entry)) (from : ℕ)
+  fits_by : (key : Key) (room : ℕ) (es : List (Outcome Entry)) (from : ℕ)
       → length (parts_by s n look key room es from).given ≤ room
   unfolding parts_by
   fits_by key room [] from = omega arith
-  fits_by key room (ends ∷ es) from = omega arith
   fits_by key room (refuses r ∷ es) from = omega arith
   fits_by key room (gives e ∷ es) from =
       let P : Parts → Type 0 = λ (p : Parts). length p.given ≤ room in
       let f = fits_by key (room - 1) es (from + e.length) in
       both P (eqb e.instance key.instance) _ (stops (gives tt))
-      (both P (known_type e.ty) _ (stops (refuses (refusal 6 n from)))
+      (both P (known_type e.ty) _ (stops (refuses (refusal UnknownType n from)))
       (both P (eqb e.ty key.ty) _ (stops (gives tt))
-      (by_test P (ltb 0 room) _ (stops (refuses (refusal 20 n from)))
+      (by_test P (ltb 0 room) _ (stops (refuses (refusal NoRoom n from)))
       (λ t. let l : 0 < room = grind (arith, nat_tests) in giving_fits from room (part_of s n look e from)
       (parts_by s n look key (room - 1) es (from + e.length)) l f)
       (omega arith)) (omega arith)) (omega arith)) (omega arith)
 
-  fits_from : (room : ℕ) (es : List (Answer Entry)) (from : ℕ)
+  fits_from : (room : ℕ) (es : List (Outcome Entry)) (from : ℕ)
       → length (parts_from s n look room es from).given ≤ room
   unfolding parts_from
   fits_from room [] from = omega arith
-  fits_from room (ends ∷ es) from = omega arith
   fits_from room (refuses r ∷ es) from = omega arith
   fits_from room (gives e ∷ es) from = fits_by (key_of e) room (gives e ∷ es) from
 
@@ -82,12 +80,11 @@ module _ (s : List ℕ) (n : RecordNumber) (look : RecordNumber → Option (List
   fits_in room (Some l) = fits_from room (entries_of s n l.to l.from) l.from
 
   -- two rooms, each for as many entries as there are bytes for
-  same_by : (key : Key) (to a b : ℕ) (es : List (Answer Entry)) (from : ℕ) → es ≡ entries_of s n to from
+  same_by : (key : Key) (to a b : ℕ) (es : List (Outcome Entry)) (from : ℕ) → es ≡ entries_of s n to from
       → to - from < 26 * (a + 1) → to - from < 26 * (b + 1) → parts_by s n look key a es from ≡ parts_by s n look key
       b es from
   unfolding parts_by
   same_by key to a b [] from q k l = refl
-  same_by key to a b (ends ∷ es) from q k l = refl
   same_by key to a b (refuses r ∷ es) from q k l = refl
   same_by key to a b (gives e ∷ es) from q k l =
       let p = peel s n to from e es q in let x = p.least in let y = p.most in
@@ -95,12 +92,11 @@ module _ (s : List ℕ) (n : RecordNumber) (look : RecordNumber → Option (List
       let h = same_by key to (a - 1) (b - 1) es (from + e.length) p.tail (omega arith) (omega arith) in
       rw (f, g, h) refl
 
-  same_from : (to a b : ℕ) (es : List (Answer Entry)) (from : ℕ) → es ≡ entries_of s n to from
+  same_from : (to a b : ℕ) (es : List (Outcome Entry)) (from : ℕ) → es ≡ entries_of s n to from
       → to - from < 26 * (a + 1) → to - from < 26 * (b + 1) → parts_from s n look a es from ≡ parts_from s n look b es
       from
   unfolding parts_from
   same_from to a b [] from q k l = refl
-  same_from to a b (ends ∷ es) from q k l = refl
   same_from to a b (refuses r ∷ es) from q k l = refl
   same_from to a b (gives e ∷ es) from q k l = same_by (key_of e) to a b (gives e ∷ es) from q k l
 
@@ -118,15 +114,15 @@ module _ (s : List ℕ) (n : RecordNumber) (look : RecordNumber → Option (List
   same_of a b o f = by (lies_in (length s) o) f
     where
       by : (t : Bool) → (t ≡ true → parts_in s n look a o ≡ parts_in s n look b o)
-          → pick t (parts_in s n look a o) (stops (refuses (refusal 22 n 0))) ≡ pick t (parts_in s n look b o)
-          (stops (refuses (refusal 22 n 0)))
+          → pick t (parts_in s n look a o) (stops (refuses (refusal BadState n 0))) ≡ pick t (parts_in s n look b o)
+          (stops (refuses (refusal BadState n 0)))
       by true f = f refl
       by false f = refl
 
 pub parts_fit : PartsFit
 unfolding parts_of
 parts_fit s n look room o =
-    both (λ (p : Parts). length p.given ≤ room) (lies_in (length s) o) _ (stops (refuses (refusal 22 n 0)))
+    both (λ (p : Parts). length p.given ≤ room) (lies_in (length s) o) _ (stops (refuses (refusal BadState n 0)))
     (fits_in s n look room o) (omega arith)
 
 pub room_suffices : RoomSuffices

@@ -25,9 +25,11 @@ use Rattle.std.proofs.Common.{
 use Rattle.std.proofs.lemmas.List.{length-map}
 use borrow.Author.Tests.{lt-ltb, le-ltb, eq-eqb, ne_eqb}
 use Rattle.std.specs.Prelude.{Option, Some}
-use Rattle.fields.specs.Answer.{Answer, gives, ends, refuses, Refused, refusal, Report, report}
+use Rattle.fields.specs.Answer.{gives, ends, refuses, refusal, Report, report, Outcome}
 use Rattle.fields.specs.Known.{known_type}
 use Rattle.fields.specs.declared.RecordNumber.{RecordNumber}
+use Rattle.fields.specs.declared.Refusal.{Refusal}
+use Rattle.fields.specs.declared.Cause.TheVariants.{UnknownType, NoRoom}
 use Rattle.list.specs.Entry.{entry_of}
 use Rattle.list.specs.declared.Entry.{Entry}
 use Rattle.items.specs.Read.{Read, joined, sought as seen}
@@ -45,13 +47,13 @@ use Rattle.parts.specs.Filled.{put, Told, tells, told_parts}
 unfoldable pub after : ℕ → ℕ → List Part → Parts → Told
 after r k xs p = tells (put xs k p.given) (k + length p.given) p.answer (r + length p.reads)
 
-stop : (r k : ℕ) (xs : List Part) (rs : List Read) (a : Answer Unit)
+stop : (r k : ℕ) (xs : List Part) (rs : List Read) (a : Outcome Unit)
     → after r k xs (reading rs (stops a)) ≡ tells xs k a (r + length rs)
 unfolding after put
 stop r k xs rs a = ap (λ (y : ℕ). tells xs y a (r + length (rs ++ []))) (omega arith)
     ∙ ap (λ (y : ℕ). tells xs k a y) (omega (arith, length-append rs []))
 
-stop-here : (r k : ℕ) (xs : List Part) (a : Answer Unit) → after r k xs (stops a) ≡ tells xs k a r
+stop-here : (r k : ℕ) (xs : List Part) (a : Outcome Unit) → after r k xs (stops a) ≡ tells xs k a r
 unfolding after put
 stop-here r k xs a = ap (λ (y : ℕ). tells xs y a (r + 0)) (omega arith) ∙ ap (λ (y : ℕ). tells xs k a y) (omega arith)
 
@@ -67,7 +69,7 @@ module _ (s : List ℕ) (n : RecordNumber) (look : RecordNumber → Option (List
   unfolding parts_by
   parts_ended g = sym (i ∙ rw (no_entry s n l g) (stop-here r k xs (gives tt)))
 
-  pub parts_refused : (q : Refused) → refuses q ≡ entry_of (rest_of s l) n l.from → tells xs k (refuses q) r ≡ x
+  pub parts_refused : (q : Refusal) → refuses q ≡ entry_of (rest_of s l) n l.from → tells xs k (refuses q) r ≡ x
   unfolding parts_by
   parts_refused q g = sym (i ∙ rw (bad_entry s n l q g) (stop-here r k xs (refuses q)))
 
@@ -77,10 +79,10 @@ module _ (s : List ℕ) (n : RecordNumber) (look : RecordNumber → Option (List
     parts_other u = sym (i ∙ rw (first_entry s n l e g, ne_eqb _ _ u) (stop r k xs (joined l.from e ∷ []) (gives tt)))
 
     module _ (u : e.instance ≡ key.instance) where
-      pub parts_unknown : known_type e.ty ≡ false → tells xs k (refuses (refusal 6 n l.from)) (r + 1) ≡ x
+      pub parts_unknown : known_type e.ty ≡ false → tells xs k (refuses (refusal UnknownType n l.from)) (r + 1) ≡ x
       unfolding parts_by
       parts_unknown v = sym (i ∙ rw (first_entry s n l e g, eq-eqb _ _ u, v)
-          (stop r k xs (joined l.from e ∷ []) (refuses (refusal 6 n l.from))))
+          (stop r k xs (joined l.from e ∷ []) (refuses (refusal UnknownType n l.from))))
 
       module _ (v : known_type e.ty ≡ true) where
         pub parts_typed : (e.ty ≡ key.ty → ⊥) → tells xs k (gives tt) (r + 1) ≡ x
@@ -89,10 +91,10 @@ module _ (s : List ℕ) (n : RecordNumber) (look : RecordNumber → Option (List
             (stop r k xs (joined l.from e ∷ []) (gives tt)))
 
         module _ (w : e.ty ≡ key.ty) where
-          pub parts_full : room ≤ 0 → tells xs k (refuses (refusal 20 n l.from)) (r + 1) ≡ x
+          pub parts_full : room ≤ 0 → tells xs k (refuses (refusal NoRoom n l.from)) (r + 1) ≡ x
           unfolding parts_by
           parts_full z = sym (i ∙ rw (first_entry s n l e g, eq-eqb _ _ u, v, eq-eqb _ _ w, le-ltb 0 room z)
-              (stop r k xs (joined l.from e ∷ []) (refuses (refusal 20 n l.from))))
+              (stop r k xs (joined l.from e ∷ []) (refuses (refusal NoRoom n l.from))))
 
           module _ (z : 0 < room) (c : Report Part) (d : c ≡ report (part_of s n look e l.from)
               (length (sought_of s n look e l.from).read)) where
@@ -116,17 +118,17 @@ module _ (s : List ℕ) (n : RecordNumber) (look : RecordNumber → Option (List
                 (length-map (sought_of s n look e l.from).read (seen e.file)
                 ∙ sym (ap (λ (y : Report Part). y.reads) d))
 
-            at_part : (a : Answer Part) → a ≡ c.answer → x ≡ after (r + 1 + c.reads) k xs
+            at_part : (a : Outcome Part) → a ≡ c.answer → x ≡ after (r + 1 + c.reads) k xs
                 (giving l.from a (parts_by s n look key (room - 1) (entries_of s n l.to (l.from + e.length))
                 (l.from + e.length)))
             at_part a q =
                 i ∙ ap (after r k xs) goes ∙ came (giving l.from (part_of s n look e l.from)
                 (parts_by s n look key (room - 1) (entries_of s n l.to (l.from + e.length)) (l.from + e.length)))
-                ∙ ap (λ (y : Answer Part). after (r + 1 + c.reads) k xs
+                ∙ ap (λ (y : Outcome Part). after (r + 1 + c.reads) k xs
                 (giving l.from y (parts_by s n look key (room - 1) (entries_of s n l.to (l.from + e.length))
                 (l.from + e.length)))) (sym (q ∙ ap (λ (y : Report Part). y.answer) d))
 
-            pub parts_missed : (q : Refused) → refuses q ≡ c.answer → tells xs k (refuses q) (r + 1 + c.reads) ≡ x
+            pub parts_missed : (q : Refusal) → refuses q ≡ c.answer → tells xs k (refuses q) (r + 1 + c.reads) ≡ x
             unfolding giving
             parts_missed q h = sym (at_part (refuses q) h ∙ stop-here (r + 1 + c.reads) k xs (refuses q))
 
@@ -151,7 +153,7 @@ module _ (s : List ℕ) (n : RecordNumber) (look : RecordNumber → Option (List
   abbrev taken : Told
   taken = told_parts xs (parts_in s n look room (Some l))
 
-  pub nothing : (a : Answer Unit) → tells xs 0 a 0 ≡ told_parts xs (stops a)
+  pub nothing : (a : Outcome Unit) → tells xs 0 a 0 ≡ told_parts xs (stops a)
   unfolding told_parts put
   nothing a = refl
 
@@ -159,7 +161,7 @@ module _ (s : List ℕ) (n : RecordNumber) (look : RecordNumber → Option (List
   unfolding parts_in parts_from
   front_ended g = nothing (gives tt) ∙ sym (rw (no_entry s n l g) refl)
 
-  pub front_refused : (q : Refused) → refuses q ≡ entry_of (rest_of s l) n l.from → tells xs 0 (refuses q) 0 ≡ taken
+  pub front_refused : (q : Refusal) → refuses q ≡ entry_of (rest_of s l) n l.from → tells xs 0 (refuses q) 0 ≡ taken
   unfolding parts_in parts_from
   front_refused q g = nothing (refuses q) ∙ sym (rw (bad_entry s n l q g) refl)
 

@@ -1,8 +1,7 @@
 -- RULES 15, 17: what a call for parts reports, and what stands in the lent list behind it.
-use Rattle.std.specs.Prelude.{ℕ, ◌+◌, List, [], ◌∷◌, length, slice_set, replicate, Result}
-use Rattle.fields.specs.Answer.{Answer}
+use Rattle.std.specs.Prelude.{ℕ, ◌+◌, List, [], ◌∷◌, length, slice_set, replicate}
+use Rattle.fields.specs.Answer.{Outcome}
 use Rattle.fields.specs.Told.{told}
-use Rattle.fields.specs.declared.Refusal.{Refusal}
 use Rattle.parts.specs.Parts.{Given, Parts}
 use Rattle.parts.specs.declared.Part.{Part}
 use Rattle.parts.specs.declared.Filled.{Filled}
@@ -16,10 +15,10 @@ put xs k (g ∷ gs) = put (slice_set xs k g.part) (k + 1) gs
 pub record Told : Type 0 where
   pub list : List Part
   pub count : ℕ
-  pub answer : Answer Unit
+  pub answer : Outcome Unit
   pub reads : ℕ
 
-abbrev pub tells : List Part → ℕ → Answer Unit → ℕ → Told
+abbrev pub tells : List Part → ℕ → Outcome Unit → ℕ → Told
 tells xs k a r = record { list = xs; count = k; answer = a; reads = r }
 
 -- a lent list filled, and what is reported
@@ -28,10 +27,6 @@ told_parts lent p = tells (put lent 0 p.given) (length p.given) p.answer (length
 
 abbrev pub filled : List Part → Filled → Told
 filled xs r = tells xs r.count (told r.answer) r.reads
-
--- ended before the first part
-abbrev pub ended : Result Unit Refusal → Filled
-ended a = record { count = 0; answer = a; reads = 0 }
 
 -- as many entries as a list in the largest record has room for, 4,096 / 26
 abbrev pub most_parts : ℕ

@@ -1,7 +1,11 @@
 -- What holds of this chapter whatever the bytes; src/laws.rt has the functions whose contracts these are.
-use Rattle.std.specs.Prelude.{ℕ, ◌≤◌, ◌≡◌, List, ◌++◌, map, drop, length, Option}
+use Rattle.std.specs.Prelude.{ℕ, ◌≤◌, ◌≡◌, List, ◌++◌, map, drop, length, Option, Some}
+use Rattle.fields.specs.Answer.{gives}
 use Rattle.fields.specs.declared.RecordNumber.{RecordNumber}
+use Rattle.items.specs.Items.{next_of}
 use Rattle.items.specs.declared.walk.Rest.{Rest}
+use Rattle.items.specs.declared.walk.State.{State}
+use Rattle.items.specs.declared.walk.Item.{Item}
 use Rattle.parts.specs.declared.Part.{Part}
 use Rattle.parts.specs.declared.Filled.{Filled}
 use Rattle.parts.specs.Parts.{Parts, parts_of}
@@ -26,3 +30,9 @@ PartsFit = (s : List ℕ) (n : RecordNumber) (look : RecordNumber → Option (Li
 abbrev pub RoomSuffices : Type 0
 RoomSuffices = (s : List ℕ) (n : RecordNumber) (look : RecordNumber → Option (List ℕ)) (room : ℕ) (o : Option Rest)
     → length s ≤ 4096 → most_parts ≤ room → parts_of s n look room o ≡ parts_of s n look most_parts o
+
+-- whole parts are at least one, for every item that tells a list
+abbrev pub WholePartsAreSome : Type 0
+WholePartsAreSome = (s : List ℕ) (n : RecordNumber) (look : RecordNumber → Option (List ℕ)) (w : State) (i : Item)
+    (l : Rest) (room : ℕ) → (next_of s n look w).answer ≡ gives i → i.rest ≡ Some l
+    → (parts_of s n look room (Some l)).answer ≡ gives tt → 1 ≤ length (parts_of s n look room (Some l)).given

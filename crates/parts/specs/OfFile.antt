@@ -1,32 +1,34 @@
--- The definitions at a file: its base record's bytes and number, and a lookup in its table.
-use Rattle.std.specs.Prelude.{ℕ, length, Option, Some}
+-- The parts at a file, step by step. Only contracts of this chapter's own functions and of those above speak of it.
+use Rattle.std.specs.Prelude.{ℕ, length, Option, Some, Result}
 use Rattle.fields.specs.Answer.{Report, report}
-use Rattle.table.specs.Held.{record_of}
+use Rattle.fields.specs.declared.Refusal.{Refusal}
 use Rattle.list.specs.declared.Entry.{Entry}
-use Rattle.items.specs.Items.{entries_of}
-use Rattle.items.specs.OfFile.{sought_by}
+use Rattle.items.specs.Items.{entries_of, sought_of}
+use Rattle.items.specs.OfFile.{of_file}
 use Rattle.items.specs.declared.File.{File}
 use Rattle.items.specs.declared.walk.Rest.{Rest}
 use Rattle.items.specs.declared.walk.Key.{Key}
 use Rattle.parts.specs.Part.{part_of}
 use Rattle.parts.specs.Parts.{Parts, parts_by, parts_in, parts_of}
 use Rattle.parts.specs.declared.Part.{Part}
+use Rattle.parts.specs.declared.Filled.{Filled}
 
 -- the part that an entry at a place leads to, with what was read for it
 abbrev pub part_at : File → Entry → ℕ → Report Part
-part_at f e place =
-    report (part_of f.base.bytes.now f.base.number (record_of f.table.bytes.now) e place)
-    (length (sought_by f e place).read)
+part_at f e place = report (of_file part_of f e place) (length (of_file sought_of f e place).read)
 
 -- the parts of a key's stream by a list, with so much room
 abbrev pub parts_keyed : File → Key → ℕ → Rest → Parts
 parts_keyed f key room l =
-    parts_by f.base.bytes.now f.base.number (record_of f.table.bytes.now) key room
-    (entries_of f.base.bytes.now f.base.number l.to l.from) l.from
+    of_file parts_by f key room (entries_of f.base.bytes.now f.base.number l.to l.from) l.from
 
 -- the parts by a list that an item has, or by none; and by a list that was tested
 abbrev pub parts_of_file : File → ℕ → Option Rest → Parts
-parts_of_file f room o = parts_of f.base.bytes.now f.base.number (record_of f.table.bytes.now) room o
+parts_of_file f room o = of_file parts_of f room o
 
 abbrev pub parts_behind : File → ℕ → Rest → Parts
-parts_behind f room l = parts_in f.base.bytes.now f.base.number (record_of f.table.bytes.now) room (Some l)
+parts_behind f room l = of_file parts_in f room (Some l)
+
+-- ended before the first part
+abbrev pub ended : Result Unit Refusal → Filled
+ended a = record { count = 0; answer = a; reads = 0 }

@@ -2,9 +2,10 @@
 -- what the entries of its list are.
 use Rattle.std.specs.Prelude.{ℕ, ◌+◌, ◌-◌, List, [], ◌∷◌, ◌++◌, map, length, eqb, ltb, Option, Some, None}
 use Rattle.fields.specs.Pick.{pick}
-use Rattle.fields.specs.Answer.{Answer, gives, ends, refuses, refusal}
+use Rattle.fields.specs.Answer.{Outcome, gives, refuses, refusal}
 use Rattle.fields.specs.Known.{known_type}
 use Rattle.fields.specs.declared.RecordNumber.{RecordNumber}
+use Rattle.fields.specs.declared.Cause.TheVariants.{NoRoom, UnknownType, BadState}
 use Rattle.list.specs.declared.Entry.{Entry}
 use Rattle.items.specs.Read.{Read, sought, joined}
 use Rattle.items.specs.State.{lies_in, key_of}
@@ -22,31 +23,25 @@ pub record Given : Type 0 where
 -- the parts given, in the order of the list, how they end, and what the call read, in order
 pub record Parts : Type 0 where
   pub given : List Given
-  pub answer : Answer Unit
+  pub answer : Outcome Unit
   pub reads : List Read
 
-abbrev pub stops : Answer Unit → Parts
+abbrev pub stops : Outcome Unit → Parts
 stops a = record { given = []; answer = a; reads = [] }
 
 abbrev pub reading : List Read → Parts → Parts
-reading rs p = record { given = p.given; answer = p.answer; reads = rs ++ p.reads }
+reading rs p = record p { reads = rs ++ p.reads }
 
 -- the part by the entry at a place, and those behind it; or its refusal
-unfoldable pub giving : ℕ → Answer Part → Parts → Parts
-giving place (gives p) behind = record {
-  given = record { place = place; part = p } ∷ behind.given;
-  answer = behind.answer;
-  reads = behind.reads;
-}
-giving place ends behind = stops ends
+unfoldable pub giving : ℕ → Outcome Part → Parts → Parts
+giving place (gives p) behind = record behind { given = record { place = place; part = p } ∷ behind.given }
 giving place (refuses r) behind = stops (refuses r)
 
 module _ (s : List ℕ) (n : RecordNumber) (look : RecordNumber → Option (List ℕ)) where
   -- entries with the instance and type of the first go on; where the instance agrees and the type is unknown: 6; 20
   -- comes before the lookup
-  unfoldable pub parts_by : Key → ℕ → List (Answer Entry) → ℕ → Parts
+  unfoldable pub parts_by : Key → ℕ → List (Outcome Entry) → ℕ → Parts
   parts_by key room [] from = stops (gives tt)
-  parts_by key room (ends ∷ es) from = stops (gives tt)
   parts_by key room (refuses r ∷ es) from = stops (refuses r)
   parts_by key room (gives e ∷ es) from =
       reading (joined from e ∷ [])
@@ -56,15 +51,14 @@ module _ (s : List ℕ) (n : RecordNumber) (look : RecordNumber → Option (List
       (pick (ltb 0 room)
       (reading (map (sought e.file) (sought_of s n look e from).read)
       (giving from (part_of s n look e from) (parts_by key (room - 1) es (from + e.length))))
-      (stops (refuses (refusal 20 n from))))
+      (stops (refuses (refusal NoRoom n from))))
       (stops (gives tt)))
-      (stops (refuses (refusal 6 n from))))
+      (stops (refuses (refusal UnknownType n from))))
       (stops (gives tt)))
 
   -- the first entry tells the key; a place where none is given makes no parts
-  unfoldable pub parts_from : ℕ → List (Answer Entry) → ℕ → Parts
+  unfoldable pub parts_from : ℕ → List (Outcome Entry) → ℕ → Parts
   parts_from room [] from = stops (gives tt)
-  parts_from room (ends ∷ es) from = stops (gives tt)
   parts_from room (refuses r ∷ es) from = stops (refuses r)
   parts_from room (gives e ∷ es) from = parts_by (key_of e) room (gives e ∷ es) from
 
@@ -75,4 +69,4 @@ module _ (s : List ℕ) (n : RecordNumber) (look : RecordNumber → Option (List
 
   -- 22 comes before the steps
   unfoldable pub parts_of : ℕ → Option Rest → Parts
-  parts_of room o = pick (lies_in (length s) o) (parts_in room o) (stops (refuses (refusal 22 n 0)))
+  parts_of room o = pick (lies_in (length s) o) (parts_in room o) (stops (refuses (refusal BadState n 0)))

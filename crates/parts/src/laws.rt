@@ -1,7 +1,7 @@
 //! What holds of parts whatever the bytes, each law the contract of a function that does nothing.
 ghost use Rattle.fields.specs.Laws.{Settles};
 ghost use Rattle.parts.specs.Filled.{collected};
-ghost use Rattle.parts.specs.Laws.{FilledSettle, PartsInFront, PartsFit, RoomSuffices};
+ghost use Rattle.parts.specs.Laws.{FilledSettle, PartsInFront, PartsFit, RoomSuffices, WholePartsAreSome};
 
 /// A call whose contract states what it reports leaves one list and has one result at most (RULES 2, 17).
 pub fn results_settle()
@@ -19,4 +19,9 @@ pub fn parts_stand_in_front()
 /// With room for `MOST_PARTS` parts, 20 never comes for want of more (RULES 15).
 pub fn room_suffices()
     ensures { RoomSuffices }
+{}
+
+/// Parts of an item that tells a list are refused, or are at least one (RULES 15).
+pub fn whole_parts_are_some()
+    ensures { WholePartsAreSome }
 {}

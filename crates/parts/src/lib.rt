@@ -5,12 +5,14 @@ pub mod laws;
 
 ghost use Rattle.std.specs.Prelude.{◌≡◌, ◌-◌, ◌*◌, ◌≤◌, min, length};
 ghost use Rattle.fields.specs.Told.{told, told_report};
-ghost use Rattle.record.specs.Laws.{shown_record};
-ghost use Rattle.items.specs.State.{Lies};
-ghost use Rattle.items.specs.OfFile.{size_of};
+ghost use Rattle.record.specs.Told.{shown_record};
+ghost use Rattle.items.specs.Lies.{Lies};
+ghost use Rattle.items.specs.OfFile.{of_file};
+ghost use Rattle.items.specs.Bounds.{size_of};
 ghost use Rattle.parts.specs.Part.{part_in};
-ghost use Rattle.parts.specs.OfFile.{part_at, parts_keyed, parts_behind, parts_of_file};
-ghost use Rattle.parts.specs.Filled.{told_parts, filled, ended, most_parts, blank_parts, collected};
+ghost use Rattle.parts.specs.Parts.{parts_of};
+ghost use Rattle.parts.specs.OfFile.{part_at, parts_keyed, parts_behind, ended};
+ghost use Rattle.parts.specs.Filled.{told_parts, filled, most_parts, blank_parts, collected};
 
 use fields::{Cause, Counted, RecordNumber, Refusal, Vcn, known_type};
 use items::{File, Key, Rest};
@@ -192,7 +194,7 @@ fn fill_from(file: &File, from: Rest, list: &mut [Part]) -> Filled
 /// There is room for as many as the list is long; 20 where that is not enough. An item without a list has none.
 #[tactic(auto, using(crate::proofs::Calls::calls))]
 pub fn fill(file: &File, rest: Option<Rest>, list: &mut [Part]) -> Filled
-    ensures parts { filled list.new result ≡ told_parts list.old (parts_of_file file.now (length list.old) rest) }
+    ensures parts { filled list.new result ≡ told_parts list.old (of_file parts_of file.now (length list.old) rest) }
     ensures fits { result.count ≤ length list.old }
     ensures size { length list.new ≡ length list.old }
     ensures few { result.reads ≤ 257 * size_of file.now }
@@ -210,7 +212,7 @@ pub fn fill(file: &File, rest: Option<Rest>, list: &mut [Part]) -> Filled
 /// is blank.
 #[tactic(auto, unfolding(crate::specs::Filled::blank_parts))]
 pub fn collect(file: &File, rest: Option<Rest>, room: usize) -> Collected
-    ensures { collected result ≡ told_parts blank_parts (parts_of_file file.now (min room most_parts) rest) }
+    ensures { collected result ≡ told_parts blank_parts (of_file parts_of file.now (min room most_parts) rest) }
 {
     let mut parts = [Part::BLANK; MOST_PARTS];
     let filled = fill(file, rest, &mut parts[..room.min(MOST_PARTS)]);

@@ -3,7 +3,8 @@ use Rattle.std.proofs.Common.{ℕ, ◌+◌, ◌-◌, ◌≤◌, ◌≡◌, List,
 use Rattle.std.proofs.lemmas.Bool.Decides.{nat_tests}
 use Rattle.fields.specs.Answer.{gives}
 use Rattle.fields.specs.declared.RecordNumber.{RecordNumber}
-use Rattle.record.specs.Attribute.{attribute_at, checked_at, Inside}
+use Rattle.record.specs.Attribute.{attribute_at, checked_at}
+use Rattle.record.specs.Inside.{Inside}
 use Rattle.record.specs.Walk.{step_at}
 use Rattle.record.specs.Laws.{Stands}
 use Rattle.record.specs.declared.layout.Attribute.{Attribute}

@@ -8,3 +8,4 @@ pub mod Searches
 pub mod Spans
 pub mod Takes
 pub mod Readers
+pub mod Settled

@@ -4,13 +4,13 @@ use Rattle.std.proofs.lemmas.Bool.Decides.{nat_tests}
 use Rattle.fields.specs.Answer.{gives}
 use Rattle.fields.specs.Length.{good_length}
 use Rattle.fields.specs.declared.RecordNumber.{RecordNumber}
-use Rattle.record.specs.Open.{open_of}
+use Rattle.record.specs.Open.{open_of, lent}
 
-pub least : (s : List ℕ) (n : RecordNumber) → gives tt ≡ open_of s n → 64 ≤ length s
+pub least : (s : List ℕ) (n : RecordNumber) → gives (lent s n) ≡ open_of s n → 64 ≤ length s
 unfolding open_of good_length
 least s n e = grind (arith, nat_tests)
 
-pub most : (s : List ℕ) (n : RecordNumber) → gives tt ≡ open_of s n → length s ≤ 4096
+pub most : (s : List ℕ) (n : RecordNumber) → gives (lent s n) ≡ open_of s n → length s ≤ 4096
 unfolding open_of good_length
 most s n e = grind (arith, nat_tests)
 

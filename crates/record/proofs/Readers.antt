@@ -6,7 +6,8 @@ use Rattle.fields.specs.Answer.{Answer, ends, refuses}
 use Rattle.fields.specs.declared.RecordNumber.{RecordNumber}
 use Rattle.fields.specs.declared.Refusal.{Refusal}
 use Rattle.record.specs.Walk.{step_at}
-use Rattle.record.specs.Reader.{place_after, answer_of, place_of}
+use Rattle.record.specs.Reader.{place_after, answer_of}
+use Rattle.record.specs.Places.{place_of}
 use Rattle.record.specs.Laws.{Taken, TakesWalk, PlacesRise, Still, EndsStay}
 use Rattle.record.specs.Laws.{RefusalsStay, EndsRest, RefusalsRest}
 use Rattle.record.specs.declared.Record.{Record}

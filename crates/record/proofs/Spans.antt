@@ -7,7 +7,8 @@ use Rattle.std.proofs.lemmas.Bool.Decides.{nat_tests}
 use Rattle.fields.specs.Answer.{gives}
 use Rattle.fields.specs.declared.RecordNumber.{RecordNumber}
 use Rattle.fields.proofs.Answers.{refused-given, the-given, back}
-use Rattle.record.specs.Attribute.{checked_at, Inside}
+use Rattle.record.specs.Attribute.{checked_at}
+use Rattle.record.specs.Inside.{Inside}
 use Rattle.record.proofs.Given.{of-checked, inside}
 use Rattle.record.specs.View.{Piece, piece_of, empty}
 use Rattle.record.specs.Name.{name_in, name_of}

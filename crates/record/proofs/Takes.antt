@@ -5,7 +5,8 @@ use Rattle.fields.specs.Answer.{Answer, gives, ends, refuses}
 use Rattle.fields.specs.declared.RecordNumber.{RecordNumber}
 use Rattle.record.specs.Header.{first_attribute}
 use Rattle.record.specs.Walk.{step_at, walk_from, attributes_of}
-use Rattle.record.specs.Reader.{place_after, nth, past, answer_of, place_of}
+use Rattle.record.specs.Reader.{place_after, nth, answer_of}
+use Rattle.record.specs.Places.{past, place_of}
 use Rattle.record.specs.declared.layout.Attribute.{Attribute}
 use Rattle.record.proofs.Walks.{moved, ended, refused}
 

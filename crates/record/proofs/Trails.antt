@@ -1,8 +1,9 @@
 -- A step is the first of a trail, and what comes from behind it is the rest.
-use Rattle.std.proofs.Common.{ℕ, zero, suc, ◌+◌, ◌-◌, ◌*◌, ◌<◌, ◌≤◌, ◌≡◌, List, [], ◌∷◌, length, refl, sym, ap}
+use Rattle.std.proofs.Common.{ℕ, zero, suc, ◌+◌, ◌-◌, ◌<◌, ◌≤◌, ◌≡◌, List, [], ◌∷◌, refl, sym, ap}
 use Rattle.std.proofs.Common.{◌∙◌, arith}
-use Rattle.fields.specs.Answer.{Answer, gives, ends, refuses, Refused}
+use Rattle.fields.specs.Answer.{Answer, gives, ends, refuses, Outcome}
 use Rattle.fields.specs.Trail.{behind, run, trail}
+use Rattle.fields.specs.declared.Refusal.{Refusal}
 
 -- a thing that was given takes bytes, and ends inside
 pub record Moves (m at by : ℕ) : Type 0 where
@@ -17,7 +18,7 @@ module _ {A : Type 0} (step : ℕ → Answer A) (size : A → ℕ) (m : ℕ)
   unfolding behind
   behind-same f g at ih l k (gives x) e =
       let w = moves at x e in let y = w.least in let z = w.most in
-      ap (λ (t : List (Answer A)). gives x ∷ t) (ih (at + size x) (omega arith) (omega arith))
+      ap (λ (t : List (Outcome A)). gives x ∷ t) (ih (at + size x) (omega arith) (omega arith))
   behind-same f g at ih l k ends e = refl
   behind-same f g at ih l k (refuses r) e = refl
 
@@ -33,31 +34,13 @@ module _ {A : Type 0} (step : ℕ → Answer A) (size : A → ℕ) (m : ℕ)
   moved at x e =
       let w = moves at x (sym e) in let y = w.least in let z = w.most in
       ap (behind step size (run step size (m - at)) at) (sym e)
-      ∙ ap (λ (t : List (Answer A)). gives x ∷ t)
+      ∙ ap (λ (t : List (Outcome A)). gives x ∷ t)
       (enough (m - at) (suc (m - (at + size x))) (at + size x) (omega arith) (omega arith))
 
   pub ended : (at : ℕ) → ends ≡ step at → trail step size m at ≡ []
   unfolding trail run behind
   ended at e = ap (behind step size (run step size (m - at)) at) (sym e)
 
-  pub refused : (at : ℕ) (r : Refused) → refuses r ≡ step at → trail step size m at ≡ refuses r ∷ []
+  pub refused : (at : ℕ) (r : Refusal) → refuses r ≡ step at → trail step size m at ≡ refuses r ∷ []
   unfolding trail run behind
   refused at r e = ap (behind step size (run step size (m - at)) at) (sym e)
-
-  few-behind : (f at : ℕ) → ((b : ℕ) → 16 * length (run step size f b) ≤ (m - b) + 16) → (a : Answer A) → step at ≡ a
-      → 16 * length (behind step size (run step size f) at a) ≤ (m - at) + 16
-  unfolding behind
-  few-behind f at ih (gives x) e =
-      let w = moves at x e in let y = w.least in let z = w.most in let q = ih (at + size x) in omega arith
-  few-behind f at ih ends e = omega arith
-  few-behind f at ih (refuses r) e = omega arith
-
-  few-run : (f at : ℕ) → 16 * length (run step size f at) ≤ (m - at) + 16
-  unfolding run
-  few-run zero at = omega arith
-  few-run (suc f) at = few-behind f at (few-run f) (step at) refl
-
-  -- at most one answer for each 16 bytes, and one more
-  pub few : (at : ℕ) → 16 * length (trail step size m at) ≤ (m - at) + 16
-  unfolding trail
-  few at = few-run _ at

@@ -1,8 +1,9 @@
 -- The raw walk is a trail.
-use Rattle.std.proofs.Common.{ℕ, suc, ◌+◌, ◌-◌, ◌*◌, ◌≤◌, ◌≡◌, List, [], ◌∷◌, length, arith}
-use Rattle.fields.specs.Answer.{gives, ends, refuses, Refused}
+use Rattle.std.proofs.Common.{ℕ, suc, ◌+◌, ◌-◌, ◌≡◌, List, [], ◌∷◌, length, arith}
+use Rattle.fields.specs.Answer.{gives, ends, refuses}
 use Rattle.fields.specs.Trail.{trail}
 use Rattle.fields.specs.declared.RecordNumber.{RecordNumber}
+use Rattle.fields.specs.declared.Refusal.{Refusal}
 use Rattle.record.specs.Walk.{step_at, walk_from}
 use Rattle.record.specs.Laws.{WalksEnd}
 use Rattle.record.specs.declared.layout.Attribute.{Attribute}
@@ -22,14 +23,9 @@ module _ (s : List ℕ) (n : RecordNumber) where
   unfolding walk_from
   ended at e = trails.ended (step_at s n) (λ h. h.length) (length s) moves at e
 
-  pub refused : (at : ℕ) (r : Refused) → refuses r ≡ step_at s n at → walk_from s n at ≡ refuses r ∷ []
+  pub refused : (at : ℕ) (r : Refusal) → refuses r ≡ step_at s n at → walk_from s n at ≡ refuses r ∷ []
   unfolding walk_from
   refused at r e = trails.refused (step_at s n) (λ h. h.length) (length s) moves at r e
-
-  -- at most one answer for each 16 bytes left, and one more
-  pub few : (at : ℕ) → 16 * length (walk_from s n at) ≤ (length s - at) + 16
-  unfolding walk_from
-  few at = trails.few (step_at s n) (λ h. h.length) (length s) moves at
 
 pub walks-end : WalksEnd
 unfolding walk_from trail

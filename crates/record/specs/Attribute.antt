@@ -1,11 +1,12 @@
 -- RULES 4: an attribute's first sixteen bytes (ATTRIBUTE_RECORD_HEADER), and the checks 3, 4 and 5 of whoever reads
 -- one.
-use Rattle.std.specs.Prelude.{ℕ, ◌+◌, ◌-◌, ◌≤◌, List, length, get_or, ltb, eqb}
+use Rattle.std.specs.Prelude.{ℕ, ◌+◌, ◌-◌, List, length, get_or, ltb, eqb}
 use Rattle.fields.specs.Pick.{pick}
 use Rattle.fields.specs.Le.{le}
-use Rattle.fields.specs.Answer.{Answer, gives, refuses, refusal}
+use Rattle.fields.specs.Answer.{Outcome, gives, refuses, refusal}
 use Rattle.fields.specs.Known.{attribute_flags}
 use Rattle.fields.specs.declared.RecordNumber.{RecordNumber}
+use Rattle.fields.specs.declared.Cause.TheVariants.{AttributeCut, AttributeShort, AttributeLong}
 use Rattle.record.specs.declared.layout.Attribute.{Attribute}
 
 -- the bytes that every attribute has
@@ -26,14 +27,9 @@ attribute_at s at = record {
 }
 
 -- 3: under 16 bytes left; 4: a length under 16; 5: longer than what is left. Past the record's end nothing is left
-unfoldable pub checked_at : List ℕ → RecordNumber → ℕ → Answer Attribute
+unfoldable pub checked_at : List ℕ → RecordNumber → ℕ → Outcome Attribute
 checked_at s n at =
-    pick (ltb (length s - at) header_size) (refuses (refusal 3 n at))
-    (pick (ltb (attribute_at s at).length header_size) (refuses (refusal 4 n at))
-    (pick (ltb (length s - at) (attribute_at s at).length) (refuses (refusal 5 n at))
+    pick (ltb (length s - at) header_size) (refuses (refusal AttributeCut n at))
+    (pick (ltb (attribute_at s at).length header_size) (refuses (refusal AttributeShort n at))
+    (pick (ltb (length s - at) (attribute_at s at).length) (refuses (refusal AttributeLong n at))
     (gives (attribute_at s at))))
-
--- an attribute that is at least 16 long and lies inside a record
-pub record Inside (s : List ℕ) (h : Attribute) : Type 0 where
-  pub least : 16 ≤ h.length
-  pub most : h.offset + h.length ≤ length s

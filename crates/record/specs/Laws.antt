@@ -1,44 +1,63 @@
 -- What holds of this chapter whatever the bytes; src/laws.rt has the functions whose contracts these are.
 use Rattle.std.specs.Prelude.{ℕ, suc, ◌+◌, ◌-◌, ◌*◌, ◌<◌, ◌≤◌, ◌≡◌, List, length, take, drop, Option, None}
 use Rattle.std.specs.Prelude.{Result, Ok, Err}
-use Rattle.fields.specs.Answer.{Answer, gives, ends, refuses, Refused}
-use Rattle.fields.specs.Told.{told_step}
+use Rattle.fields.specs.Answer.{Outcome, Answer, gives, ends, refuses}
+use Rattle.fields.specs.Told.{told_as, told_step}
 use Rattle.fields.specs.Trail.{run}
 use Rattle.fields.specs.declared.RecordNumber.{RecordNumber}
 use Rattle.fields.specs.declared.Refusal.{Refusal}
 use Rattle.record.specs.Header.{first_attribute}
-use Rattle.record.specs.Attribute.{attribute_at, checked_at, Inside}
+use Rattle.record.specs.Attribute.{header_size, attribute_at, checked_at}
+use Rattle.record.specs.Inside.{Inside}
 use Rattle.record.specs.Walk.{step_at, walk_from, attributes_of}
 use Rattle.record.specs.View.{Piece}
 use Rattle.record.specs.Name.{name_in, name_of}
 use Rattle.record.specs.Value.{Contents, resident, runs, value_in, value_of, list_in}
 use Rattle.record.specs.Search.{find_in}
-use Rattle.record.specs.Reader.{Takes, answer_of, place_of}
-use Rattle.record.specs.Told.{Lent, lent, piece}
+use Rattle.record.specs.Reader.{Takes, answer_of}
+use Rattle.record.specs.Places.{place_of}
+use Rattle.record.specs.Told.{shown_record, piece, shown_value}
 use Rattle.record.specs.declared.Record.{Record}
 use Rattle.record.specs.declared.layout.Attribute.{Attribute}
 use Rattle.record.specs.declared.layout.Span.{Span}
 use Rattle.record.specs.declared.reader.Reader.{Reader}
+use Rattle.record.specs.declared.values.View.{View}
 use Rattle.record.specs.declared.values.Value.{Value}
 use Rattle.record.specs.declared.values.Value.TheVariants.{Resident, Runs}
 
--- a result with what it shows in place of what it gives
-abbrev pub shown : {A B : Type 0} → (A → B) → Result A Refusal → Result B Refusal
-shown f (Ok x) = Ok (f x)
-shown f (Err r) = Err r
+-- two results give values that are the same, or refuse alike
+abbrev pub Alike : {A : Type 0} → (A → A → Type 0) → Result A Refusal → Result A Refusal → Type 0
+Alike Same (Ok x) (Ok y) = Same x y
+Alike Same (Err r) (Err q) = r ≡ q
+Alike Same (Ok x) (Err q) = ⊥
+Alike Same (Err r) (Ok y) = ⊥
 
--- a record shows its bytes and its number, a value its bytes
-abbrev pub shown_record : Record → Lent
-shown_record r = lent r.bytes.now r.number
+-- RULES 2: two results that tell one answer are alike, so a contract that states the answer leaves no choice
+abbrev pub TellsAll : {A B : Type 0} → (A → B) → (A → A → Type 0) → Type 0
+TellsAll {A} {B} tells Same = (r q : Result A Refusal) (a : Outcome B) → told_as tells r ≡ a → told_as tells q ≡ a
+    → Alike Same r q
 
-abbrev pub shown_value : Value → Contents
-shown_value (Resident v) = resident (piece v)
-shown_value (Runs v size) = runs (piece v) size
+-- records with the same bytes and number; some bytes that begin at one place and are the same; and values
+abbrev pub SameRecord : Record → Record → Type 0
+SameRecord x y = (x.bytes.now ≡ y.bytes.now) × (x.number ≡ y.number)
 
--- RULES 2: two results that say the same show the same, so a contract that states the answer leaves no choice
-abbrev pub SettlesShown : {A B C : Type 0} → (Result A Refusal → B) → (A → C) → Type 0
-SettlesShown {A} {B} says shows = (r t : Result A Refusal) (a : B) → says r ≡ a → says t ≡ a
-    → shown shows r ≡ shown shows t
+abbrev pub SameView : View → View → Type 0
+SameView x y = (x.from ≡ y.from) × (x.bytes.now ≡ y.bytes.now)
+
+abbrev pub SameValue : Value → Value → Type 0
+SameValue (Resident x) (Resident y) = SameView x y
+SameValue (Runs x k) (Runs y m) = SameView x y × (k ≡ m)
+SameValue (Resident x) (Runs y m) = ⊥
+SameValue (Runs x k) (Resident y) = ⊥
+
+abbrev pub RecordsSettle : Type 0
+RecordsSettle = TellsAll shown_record SameRecord
+
+abbrev pub ViewsSettle : Type 0
+ViewsSettle = TellsAll piece SameView
+
+abbrev pub ValuesSettle : Type 0
+ValuesSettle = TellsAll shown_value SameValue
 
 -- two takes of one reader answer the same and leave the same reader
 abbrev pub TakesSettle : Type 0
@@ -49,7 +68,7 @@ TakesSettle = (q r t : Reader) (x y : Result (Option Attribute) Refusal) → Tak
 pub record Stands (s : List ℕ) (at : ℕ) (h : Attribute) : Type 0 where
   pub is : h ≡ attribute_at s at
   pub stands : h.offset ≡ at
-  pub least : 16 ≤ h.length
+  pub least : header_size ≤ h.length
   pub most : at + h.length ≤ length s
 
 abbrev pub CheckedStand : Type 0
@@ -98,7 +117,7 @@ abbrev pub EndsStay : Type 0
 EndsStay = (s : List ℕ) (n : RecordNumber) (k : ℕ) → answer_of s n k ≡ ends → (j : ℕ) → Still s n k ends j
 
 abbrev pub RefusalsStay : Type 0
-RefusalsStay = (s : List ℕ) (n : RecordNumber) (k : ℕ) (r : Refused) → answer_of s n k ≡ refuses r → (j : ℕ)
+RefusalsStay = (s : List ℕ) (n : RecordNumber) (k : ℕ) (r : Refusal) → answer_of s n k ≡ refuses r → (j : ℕ)
     → Still s n k (refuses r) j
 
 -- wherever a reader stands, the end and a refusal leave it as it is
@@ -152,9 +171,14 @@ ListsLie = (s : List ℕ) (n : RecordNumber) (h : Attribute) → Inside s h → 
 
 -- RULES 12: a search reads one attribute at most for 16 bytes, and what it finds lies inside the record
 abbrev pub SearchesReadFew : Type 0
-SearchesReadFew = (s : List ℕ) (n k : RecordNumber) (ty instance : ℕ) (miss : Refused)
-    → 16 * length (find_in k ty instance miss (attributes_of s n)).read ≤ length s
+SearchesReadFew = (s : List ℕ) (n k : RecordNumber) (ty instance : ℕ) (miss : Refusal)
+    → header_size * length (find_in k ty instance miss (attributes_of s n)).read ≤ length s
 
 abbrev pub FoundLie : Type 0
-FoundLie = (s : List ℕ) (n k : RecordNumber) (ty instance : ℕ) (miss : Refused) (h : Attribute)
+FoundLie = (s : List ℕ) (n k : RecordNumber) (ty instance : ℕ) (miss : Refusal) (h : Attribute)
     → (find_in k ty instance miss (attributes_of s n)).answer ≡ gives h → Inside s h
+
+-- and it is what the raw walk has there
+abbrev pub FoundStand : Type 0
+FoundStand = (s : List ℕ) (n k : RecordNumber) (ty instance : ℕ) (miss : Refusal) (h : Attribute)
+    → (find_in k ty instance miss (attributes_of s n)).answer ≡ gives h → step_at s n h.offset ≡ gives h

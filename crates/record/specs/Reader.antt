@@ -1,10 +1,9 @@
 -- RULES 5: the reader. It stands at a place of a lent record, and each take is the raw step there.
 use Rattle.std.specs.Prelude.{ℕ, zero, suc, ◌+◌, ◌≡◌, List, [], ◌∷◌, Option, Result}
-use Rattle.fields.specs.Answer.{Answer, gives, ends, refuses}
+use Rattle.fields.specs.Answer.{Outcome, Answer, gives, ends, refuses}
 use Rattle.fields.specs.Told.{told_step}
 use Rattle.fields.specs.declared.RecordNumber.{RecordNumber}
 use Rattle.fields.specs.declared.Refusal.{Refusal}
-use Rattle.record.specs.Header.{first_attribute}
 use Rattle.record.specs.Walk.{step_at, attributes_of}
 use Rattle.record.specs.declared.layout.Attribute.{Attribute}
 use Rattle.record.specs.declared.reader.Reader.{Reader}
@@ -22,24 +21,12 @@ pub record Takes (q : Reader) (x : Result (Option Attribute) Refusal) (r : Reade
   pub place : r.at ≡ place_after q.at (step_at q.within.bytes.now q.within.number q.at)
 
 -- an answer of a walk by its number, from 0 on: past the last attribute what stops the walk, each time
-unfoldable pub nth : List (Answer Attribute) → ℕ → Answer Attribute
+unfoldable pub nth : List (Outcome Attribute) → ℕ → Answer Attribute
 nth [] k = ends
-nth (ends ∷ xs) k = ends
 nth (refuses r ∷ xs) k = refuses r
 nth (gives h ∷ xs) zero = gives h
 nth (gives h ∷ xs) (suc k) = nth xs k
 
--- the place of that answer: behind the attributes before it
-unfoldable pub past : List (Answer Attribute) → ℕ → ℕ → ℕ
-past [] at k = at
-past (ends ∷ xs) at k = at
-past (refuses r ∷ xs) at k = at
-past (gives h ∷ xs) at zero = at
-past (gives h ∷ xs) at (suc k) = past xs (at + h.length) k
-
--- what a reader answers after so many takes from the start, and where it stands then
+-- what a reader answers after so many takes from the start
 unfoldable pub answer_of : List ℕ → RecordNumber → ℕ → Answer Attribute
 answer_of s n k = nth (attributes_of s n) k
-
-unfoldable pub place_of : List ℕ → RecordNumber → ℕ → ℕ
-place_of s n k = past (attributes_of s n) (first_attribute s) k

@@ -2,7 +2,7 @@
 use Rattle.std.specs.Prelude.{ℕ, ◌-◌, List, length, ltb, eqb}
 use Rattle.fields.specs.Pick.{pick}
 use Rattle.fields.specs.Le.{le}
-use Rattle.fields.specs.Answer.{Answer, ends}
+use Rattle.fields.specs.Answer.{Outcome, Answer, ends, unended}
 use Rattle.fields.specs.Known.{end_marker}
 use Rattle.fields.specs.Trail.{trail}
 use Rattle.fields.specs.declared.RecordNumber.{RecordNumber}
@@ -15,12 +15,12 @@ unfoldable pub step_at : List ℕ → RecordNumber → ℕ → Answer Attribute
 step_at s n at =
     pick (ltb (length s - at) 4) ends
     (pick (eqb (le 4 s at) end_marker) ends
-    (checked_at s n at))
+    (unended (checked_at s n at)))
 
 -- from a place on, each time further by the attribute's length
-unfoldable pub walk_from : List ℕ → RecordNumber → ℕ → List (Answer Attribute)
+unfoldable pub walk_from : List ℕ → RecordNumber → ℕ → List (Outcome Attribute)
 walk_from s n at = trail (step_at s n) (λ h. h.length) (length s) at
 
 -- the attributes of a record, in the order of the walk, and a refusal where one stops it
-unfoldable pub attributes_of : List ℕ → RecordNumber → List (Answer Attribute)
+unfoldable pub attributes_of : List ℕ → RecordNumber → List (Outcome Attribute)
 attributes_of s n = walk_from s n (first_attribute s)

@@ -6,8 +6,8 @@ use fields::{Cause, Counted, Refusal, known_type};
 
 impl<'a> Record<'a> {
     ghost use Rattle.std.specs.Prelude.{◌≡◌, ◌*◌, ◌≤◌, length, IfOk};
-    ghost use Rattle.fields.specs.Told.{said, told_report};
-    ghost use Rattle.record.specs.Attribute.{Inside};
+    ghost use Rattle.fields.specs.Told.{told_report};
+    ghost use Rattle.record.specs.Inside.{Inside};
     ghost use Rattle.record.specs.Walk.{attributes_of};
     ghost use Rattle.record.specs.Search.{find_in, count_of};
 
@@ -16,7 +16,7 @@ impl<'a> Record<'a> {
     #[tactic(auto, using(crate::proofs::Searches::searches), unfolding(crate::specs::Search::find_in))]
     pub fn find(&self, ty: u32, instance: u16, miss: Refusal) -> Counted<Attribute>
         ensures answer { let attributes = attributes_of self.now.bytes.now self.now.number in
-            told_report result ≡ count_of (find_in self.now.number ty instance (said miss) attributes) }
+            told_report result ≡ count_of (find_in self.now.number ty instance miss attributes) }
         ensures inside { IfOk result.answer (Inside self.now.bytes.now) }
         ensures few { 16 * result.reads ≤ length self.now.bytes.now }
     {

@@ -1,16 +1,15 @@
 //! What holds of a record's attributes, names, values, search and reader whatever the bytes, each law the contract of
 //! a function that does nothing.
-ghost use Rattle.record.specs.Told.{piece, told_record, told_view, told_value};
-ghost use Rattle.record.specs.Laws.{shown_record, shown_value, SettlesShown, TakesSettle};
+ghost use Rattle.record.specs.Laws.{RecordsSettle, ViewsSettle, ValuesSettle, TakesSettle};
 ghost use Rattle.record.specs.Laws.{CheckedStand, SteppedStand, WalksEnd};
 ghost use Rattle.record.specs.Laws.{TakesWalk, PlacesRise, EndsStay, RefusalsStay, EndsRest, RefusalsRest};
-ghost use Rattle.record.specs.Laws.{NamesLie, ValuesLie, ListsLie, SearchesReadFew, FoundLie};
+ghost use Rattle.record.specs.Laws.{NamesLie, ValuesLie, ListsLie, SearchesReadFew, FoundLie, FoundStand};
 
 /// A call whose contract states its answer shows one result at most (RULES 2); of plain results `fields` has the law.
 pub fn results_settle()
-    ensures records { SettlesShown told_record shown_record }
-    ensures views { SettlesShown told_view piece }
-    ensures values { SettlesShown told_value shown_value }
+    ensures records { RecordsSettle }
+    ensures views { ViewsSettle }
+    ensures values { ValuesSettle }
     ensures takes { TakesSettle }
 {}
 
@@ -44,8 +43,10 @@ pub fn views_lie_inside()
     ensures lists { ListsLie }
 {}
 
-/// A search reads at most one attribute for each 16 bytes of the record, and finds one inside it (RULES 12).
+/// A search reads at most one attribute for each 16 bytes of the record, and finds one that stands inside it (RULES
+/// 12).
 pub fn searches_read_few()
     ensures few { SearchesReadFew }
     ensures inside { FoundLie }
+    ensures stand { FoundStand }
 {}

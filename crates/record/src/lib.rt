@@ -10,8 +10,8 @@ mod values;
 
 ghost use Rattle.std.specs.Prelude.{◌≡◌, ◌≤◌, length};
 ghost use Rattle.fields.specs.Answer.{gives};
-ghost use Rattle.fields.specs.Told.{told};
-ghost use Rattle.record.specs.Open.{open_of, is_file};
+ghost use Rattle.fields.specs.Told.{told_as};
+ghost use Rattle.record.specs.Open.{open_of, is_file, lent};
 ghost use Rattle.record.specs.Header.{first_attribute};
 
 pub use attributes::Attributes;
@@ -26,7 +26,7 @@ pub use values::{Located, Value, View};
 pub struct Record<'a> {
     pub bytes: &'a [u8],
     pub number: RecordNumber,
-    pub ghost passed: { open_of bytes.now number ≡ gives tt },
+    pub ghost passed: { open_of bytes.now number ≡ gives (lent bytes.now number) },
     pub ghost least: { 64 ≤ length bytes.now },
     pub ghost most: { length bytes.now ≤ 4096 },
 }
@@ -42,7 +42,7 @@ const MARKER_SIZE: usize = 4;
 const ATTRIBUTE_SIZE: usize = 16;
 
 /// Whether the first four bytes are FILE.
-#[tactic(auto, unfolding(crate::specs::Open::is_file, crate::specs::Open::same))]
+#[tactic(auto, unfolding(crate::specs::Open::is_file))]
 pub fn is_file(s: &[u8]) -> bool
     ensures { result ≡ is_file s.now }
 {
@@ -63,7 +63,7 @@ pub fn first_attribute(s: &[u8]) -> usize
 // Checks 1 and 2.
 #[tactic(auto, unfolding(crate::specs::Open::open_of, crate::specs::Open::check_file))]
 fn check(bytes: &[u8], number: RecordNumber) -> Result<(), Refusal>
-    ensures { told result ≡ open_of bytes.now number }
+    ensures { told_as (λ _. lent bytes.now number) result ≡ open_of bytes.now number }
 {
     if !good_length(bytes.len()) {
         return Cause::RecordLength.refuses(number, 0);
@@ -77,30 +77,32 @@ fn check(bytes: &[u8], number: RecordNumber) -> Result<(), Refusal>
 impl<'a> Record<'a> {
     ghost use Rattle.std.specs.Prelude.{◌≡◌, ◌+◌, ◌≤◌, length, Some, IfOk, IfSome};
     ghost use Rattle.fields.specs.Answer.{refuses, refusal};
-    ghost use Rattle.fields.specs.Told.{number_of, told, told_step};
+    ghost use Rattle.fields.specs.Told.{told, told_as, told_step};
     ghost use Rattle.record.specs.Header.{header_of, first_attribute};
-    ghost use Rattle.record.specs.Attribute.{attribute_at, checked_at, Inside};
+    ghost use Rattle.record.specs.Open.{open_of, open_in};
+    ghost use Rattle.record.specs.Attribute.{attribute_at, checked_at};
+    ghost use Rattle.record.specs.Inside.{Inside};
     ghost use Rattle.record.specs.Walk.{step_at, attributes_of};
-    ghost use Rattle.record.specs.Told.{told_record, opened_of, opened_in};
+    ghost use Rattle.record.specs.Told.{shown_record};
     ghost use Rattle.record.specs.Rest.{rest};
 
-    /// Checks 1 and 2: the only way to a record.
-    #[tactic(auto, using(crate::proofs::Opened::opened), unfolding(crate::specs::Told::opened_of))]
+    /// Checks 1 and 2: no record is made without them.
+    #[tactic(auto, using(crate::proofs::Opened::opened))]
     pub fn open(bytes: &'a [u8], number: RecordNumber) -> Result<Record<'a>, Refusal>
-        ensures { told_record result ≡ opened_of bytes.now number }
+        ensures { told_as shown_record result ≡ open_of bytes.now number }
     {
         check(bytes, number)?;
         Ok(Record { bytes, number })
     }
 
     /// The same of a record that has to be of a given size in bytes, as a table's records are: 1 where it isn't.
-    #[tactic(auto, unfolding(crate::specs::Open::open_in, crate::specs::Told::opened_of, crate::specs::Told::opened_in))]
+    #[tactic(auto, unfolding(crate::specs::Open::open_in))]
     pub fn open_sized(
         bytes: &'a [u8],
         number: RecordNumber,
         size: usize,
     ) -> Result<Record<'a>, Refusal>
-        ensures { told_record result ≡ opened_in bytes.now number size }
+        ensures { told_as shown_record result ≡ open_in bytes.now number size }
     {
         if bytes.len() != size {
             return Cause::RecordLength.refuses(number, 0);
@@ -110,7 +112,7 @@ impl<'a> Record<'a> {
 
     /// A refusal of this record at a place in it.
     pub fn refused<T: Drop>(&self, cause: Cause, place: usize) -> Result<T, Refusal>
-        ensures { told result ≡ refuses (refusal (number_of cause) self.now.number place) }
+        ensures { told result ≡ refuses (refusal cause self.now.number place) }
     {
         cause.refuses(self.number, place)
     }

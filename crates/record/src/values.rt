@@ -1,6 +1,6 @@
 //! An attribute inside its record: its name, its full header, its value, and the list that it opens (RULES 6 to 8).
 ghost use Rattle.std.specs.Prelude.{◌≡◌};
-ghost use Rattle.record.specs.Attribute.{Inside};
+ghost use Rattle.record.specs.Inside.{Inside};
 
 use crate::{Attribute, FullHeader, NonResidentHeader, Record, ResidentHeader, Span};
 use fields::bytes::{u16_at, u32_at, u64_at};
@@ -35,16 +35,16 @@ const NON_RESIDENT_SIZE: usize = 64;
 impl<'a> Located<'a> {
     ghost use Rattle.std.specs.Prelude.{◌≡◌, ◌+◌, ◌≤◌};
     ghost use Rattle.fields.specs.Answer.{refuses, refusal};
-    ghost use Rattle.fields.specs.Told.{number_of, told};
+    ghost use Rattle.fields.specs.Told.{told, told_as};
     ghost use Rattle.record.specs.View.{piece_of};
     ghost use Rattle.record.specs.Name.{name_in};
     ghost use Rattle.record.specs.Value.{resident_at, non_resident_at, full_in, resident_in, runs_in};
     ghost use Rattle.record.specs.Value.{value_in, list_in};
-    ghost use Rattle.record.specs.Told.{piece, told_view, told_value};
+    ghost use Rattle.record.specs.Told.{piece, shown_value};
 
     /// A refusal at the attribute.
     pub fn refused<T: Drop>(&self, cause: Cause) -> Result<T, Refusal>
-        ensures { told result ≡ refuses (refusal (number_of cause) self.now.within.number self.now.attribute.offset) }
+        ensures { told result ≡ refuses (refusal cause self.now.within.number self.now.attribute.offset) }
     {
         self.within.refused(cause, self.attribute.offset)
     }
@@ -65,7 +65,7 @@ impl<'a> Located<'a> {
     /// Its name: 8, then 9; empty where it has none (RULES 6).
     #[tactic(auto, unfolding(crate::specs::Name::name_in))]
     pub fn name(&self) -> Result<View<'a>, Refusal>
-        ensures { told_view result ≡ name_in self.now.within.bytes.now self.now.within.number self.now.attribute }
+        ensures { told_as piece result ≡ name_in self.now.within.bytes.now self.now.within.number self.now.attribute }
     {
         let h = self.attribute;
         let from = usize::from(h.name_offset);
@@ -135,7 +135,7 @@ impl<'a> Located<'a> {
     // A resident value: 10, then 11.
     #[tactic(auto, unfolding(crate::specs::Value::resident_in))]
     fn resident(&self, f: ResidentHeader) -> Result<View<'a>, Refusal>
-        ensures { told_view result
+        ensures { told_as piece result
             ≡ resident_in self.now.within.bytes.now self.now.within.number self.now.attribute f }
     {
         let from = usize::from(f.value_offset);
@@ -152,7 +152,7 @@ impl<'a> Located<'a> {
     // Run bytes: 12.
     #[tactic(auto, unfolding(crate::specs::Value::runs_in))]
     fn runs(&self, f: NonResidentHeader) -> Result<View<'a>, Refusal>
-        ensures { told_view result ≡ runs_in self.now.within.bytes.now self.now.within.number self.now.attribute f }
+        ensures { told_as piece result ≡ runs_in self.now.within.bytes.now self.now.within.number self.now.attribute f }
     {
         let from = usize::from(f.runs_offset);
         if self.attribute.length < from {
@@ -164,7 +164,8 @@ impl<'a> Located<'a> {
     /// Its value: 7, then 10 and 11, or 12 (RULES 7).
     #[tactic(auto, unfolding(crate::specs::Value::value_in, crate::specs::Value::value_after))]
     pub fn value(&self) -> Result<Value<'a>, Refusal>
-        ensures { told_value result ≡ value_in self.now.within.bytes.now self.now.within.number self.now.attribute }
+        ensures { told_as shown_value result
+            ≡ value_in self.now.within.bytes.now self.now.within.number self.now.attribute }
     {
         match self.full()? {
             FullHeader::Resident(f) => Ok(Value::Resident(self.resident(f)?)),
@@ -192,15 +193,15 @@ impl<'a> Located<'a> {
 
 impl<'a> Record<'a> {
     ghost use Rattle.std.specs.Prelude.{◌≡◌, IfOk};
-    ghost use Rattle.fields.specs.Told.{told};
+    ghost use Rattle.fields.specs.Told.{told, told_as};
     ghost use Rattle.record.specs.Attribute.{checked_at};
     ghost use Rattle.record.specs.Name.{name_of};
     ghost use Rattle.record.specs.Value.{full_of, value_of};
-    ghost use Rattle.record.specs.Told.{told_located, told_view, told_value};
+    ghost use Rattle.record.specs.Told.{attribute_of, piece, shown_value};
 
     /// The attribute at an offset with this record: 3 to 5.
     pub fn located(&self, at: usize) -> Result<Located<'a>, Refusal>
-        ensures answer { told_located result ≡ checked_at self.now.bytes.now self.now.number at }
+        ensures answer { told_as attribute_of result ≡ checked_at self.now.bytes.now self.now.number at }
         ensures within { IfOk result (λ l. l.within ≡ self.now) }
     {
         Ok(Located {
@@ -212,7 +213,7 @@ impl<'a> Record<'a> {
     /// The name of the attribute at an offset: 3 to 5, then 8 and 9.
     #[tactic(auto, unfolding(crate::specs::Name::name_of))]
     pub fn name(&self, at: usize) -> Result<View<'a>, Refusal>
-        ensures { told_view result ≡ name_of self.now.bytes.now self.now.number at }
+        ensures { told_as piece result ≡ name_of self.now.bytes.now self.now.number at }
     {
         self.located(at)?.name()
     }
@@ -228,7 +229,7 @@ impl<'a> Record<'a> {
     /// The value of the attribute at an offset: 3 to 5, then 7, then 10 and 11, or 12.
     #[tactic(auto, unfolding(crate::specs::Value::value_of))]
     pub fn value(&self, at: usize) -> Result<Value<'a>, Refusal>
-        ensures { told_value result ≡ value_of self.now.bytes.now self.now.number at }
+        ensures { told_as shown_value result ≡ value_of self.now.bytes.now self.now.number at }
     {
         self.located(at)?.value()
     }

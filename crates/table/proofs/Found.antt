@@ -5,7 +5,8 @@ use Rattle.fields.specs.Answer.{gives}
 use Rattle.fields.specs.declared.RecordNumber.{RecordNumber}
 use Rattle.table.specs.Layout.{row_at}
 use Rattle.table.specs.Check.{table_of}
-use Rattle.table.specs.Held.{held_at, record_at, record_of, base_row, base_of, IsRow}
+use Rattle.table.specs.Held.{held_at, record_at, record_of, base_row, base_of}
+use Rattle.table.specs.Row.{IsRow}
 use Rattle.table.specs.declared.check.TableHeader.{TableHeader}
 use Rattle.table.proofs.Sound.{sound}
 use Rattle.table.proofs.Holds.{record_of_row, record_of_none, base-inside, base-held, base-none}

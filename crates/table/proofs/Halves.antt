@@ -7,7 +7,7 @@ use Rattle.fields.specs.declared.RecordNumber.{RecordNumber}
 use Rattle.table.specs.declared.check.TableHeader.{TableHeader}
 use Rattle.table.specs.Layout.{row_at}
 use Rattle.table.specs.Check.{table_of}
-use Rattle.table.specs.Held.{IsRow}
+use Rattle.table.specs.Row.{IsRow}
 use Rattle.table.proofs.Sound.{sound}
 
 -- the rows below row n have numbers under w

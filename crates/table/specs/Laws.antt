@@ -1,15 +1,22 @@
 -- RULES 10: what a table that passed its check is, and what its calls leave open; src/laws.rt has the functions
 -- whose contracts these are.
-use Rattle.std.specs.Prelude.{ℕ, true, ◌+◌, ◌*◌, ◌<◌, ◌≤◌, ◌≡◌, List, length, Option, Some, None, Result, Ok, Err}
-use Rattle.fields.specs.Answer.{Answer, gives}
+use Rattle.std.specs.Prelude.{ℕ, true, ◌+◌, ◌*◌, ◌<◌, ◌≤◌, ◌≡◌, List, ◌++◌, length, Option, Some, None, Result, Ok, Err, IfOk}
+use Rattle.fields.specs.Answer.{Outcome, gives, refuses}
+use Rattle.fields.specs.Told.{told_as}
 use Rattle.fields.specs.Length.{good_length}
 use Rattle.fields.specs.declared.RecordNumber.{RecordNumber}
 use Rattle.fields.specs.declared.Refusal.{Refusal}
-use Rattle.table.specs.Layout.{row_size, row_at}
-use Rattle.table.specs.Check.{number_end, table_of}
-use Rattle.table.specs.Held.{held_of, held_at, record_at, record_of, base_row, base_of, IsRow}
-use Rattle.table.specs.Told.{Lent, told_table}
+use Rattle.table.specs.Layout.{row_size, row_at, numbers_at}
+use Rattle.table.specs.Check.{malformed, number_end, table_of}
+use Rattle.table.specs.Fault.{fault_of}
+use Rattle.table.specs.Reach.{reach_of}
+use Rattle.table.specs.Held.{held_of, held_at, record_at, record_of, base_row, base_of}
+use Rattle.table.specs.Row.{IsRow}
 use Rattle.table.specs.declared.check.TableHeader.{TableHeader}
+use Rattle.table.specs.declared.faults.Fault.{Fault}
+use Rattle.table.specs.declared.faults.Fault.TheVariants.{HeaderCut, RowCount, RecordSize, DirectoryBegin}
+use Rattle.table.specs.declared.faults.Fault.TheVariants.{DirectoryEnd, RecordsBegin, BaseRow}
+use Rattle.table.specs.declared.faults.Fault.TheVariants.{RowNumber, RowOrder, RowBegin, RowEnd}
 use Rattle.table.specs.declared.Table.{Table}
 
 -- what holds of every table that passed, and its numbers
@@ -53,6 +60,11 @@ RowsAreHeld = OfTables λ t h. length (held_of t) ≡ h.count
 abbrev pub BaseIsARow : Type 0
 BaseIsARow = OfTables λ t h. (i : ℕ) → base_row h ≡ Some i → (i < h.count) × (base_of t ≡ Some (held_at t h i))
 
+-- what the check of a table promises, both clauses of it
+pub record Checks (t : List ℕ) (r : Result Table Refusal) : Type 0 where
+  pub answer : told_as (λ x. x.header) r ≡ table_of t
+  pub bytes : IfOk r (λ x. x.bytes.now ≡ t)
+
 -- two checks with one answer: the same bytes with the same numbers, or the same refusal
 abbrev pub SameTable : Result Table Refusal → Result Table Refusal → Type 0
 SameTable (Ok x) (Ok y) = (x.bytes.now ≡ y.bytes.now) × (x.header ≡ y.header)
@@ -61,8 +73,41 @@ SameTable (Ok x) (Err y) = ⊥
 SameTable (Err x) (Ok y) = ⊥
 
 abbrev pub ChecksSettle : Type 0
-ChecksSettle = (r s : Result Table Refusal) (a : Answer Lent) → told_table r ≡ a → told_table s ≡ a → SameTable r s
+ChecksSettle = (t : List ℕ) (r s : Result Table Refusal) → Checks t r → Checks t s → SameTable r s
 
 -- any two ways to find a row find the same
 abbrev pub RowsSettle : Type 0
 RowsSettle = OfTables λ t h. (n : RecordNumber) (a b : Option ℕ) → IsRow t h n a → IsRow t h n b → a ≡ b
+
+-- the place that 21 has: where the row stands, or 0
+abbrev pub place_of : Fault → ℕ
+place_of (RowNumber place) = place
+place_of (RowOrder place) = place
+place_of (RowBegin place) = place
+place_of (RowEnd place) = place
+place_of (HeaderCut n) = 0
+place_of (RowCount n) = 0
+place_of (RecordSize n) = 0
+place_of (DirectoryBegin n) = 0
+place_of (DirectoryEnd n) = 0
+place_of (RecordsBegin n) = 0
+place_of (BaseRow n) = 0
+
+-- what a check answers that gives x where it finds no fault
+abbrev pub judged : {A : Type 0} → A → Option Fault → Outcome A
+judged x None = gives x
+judged x (Some f) = refuses (malformed (place_of f))
+
+-- the check refuses exactly the bytes that have a fault, at the place of the first one
+abbrev pub FaultsRefuse : Type 0
+FaultsRefuse = (t : List ℕ) → table_of t ≡ judged (numbers_at t) (fault_of t)
+
+-- bytes behind the reach of a front change no answer, and no fault
+abbrev pub FrontsAnswer : Type 0
+FrontsAnswer = (t rest : List ℕ) → reach_of t ≤ length t
+    → (table_of (t ++ rest) ≡ table_of t) × (fault_of (t ++ rest) ≡ fault_of t)
+
+-- nor what a table holds
+abbrev pub FrontsHold : Type 0
+FrontsHold = (t rest : List ℕ) → reach_of t ≤ length t → (h : TableHeader) → table_of t ≡ gives h
+    → (base_of (t ++ rest) ≡ base_of t) × ((n : RecordNumber) → record_of (t ++ rest) n ≡ record_of t n)

@@ -3,7 +3,8 @@ ghost use Rattle.std.specs.Prelude.{◌≡◌, ◌+◌, ◌*◌, ◌≤◌, leng
 ghost use Rattle.fields.specs.Answer.{gives, refuses};
 ghost use Rattle.fields.specs.Told.{told};
 ghost use Rattle.table.specs.Layout.{header_size, row_size, row_in, row_at, numbers_at};
-ghost use Rattle.table.specs.Check.{malformed, good_numbers, head_of, good_row, rows_of};
+ghost use Rattle.table.specs.Check.{malformed, good_numbers, head_of, rows_of};
+ghost use Rattle.table.specs.Loop.{good_from};
 
 use fields::bytes::{u32_at, u64_at};
 use fields::{Cause, RecordNumber, Refusal, good_length};
@@ -28,13 +29,13 @@ pub struct Row {
     pub offset: u32,
 }
 
-const HEADER_SIZE: usize = 20;
+pub const HEADER_SIZE: usize = 20;
 
-const ROW_SIZE: usize = 12;
+pub const ROW_SIZE: usize = 12;
 
-const MOST_ROWS: usize = 4096;
+pub const MOST_ROWS: usize = 4096;
 
-const NUMBER_END: u64 = 0x1_0000_0000_0000;
+pub const NUMBER_END: u64 = 0x1_0000_0000_0000;
 
 impl TableHeader {
     ghost use Rattle.table.specs.Held.{base_row};
@@ -51,7 +52,7 @@ impl TableHeader {
     }
 }
 
-// A fault of the table. It lies in no record, so that its record is 0: no refusal of a record is told so.
+// A fault of the table. It lies in no record: the record told is 0.
 fn malformed<T: Drop>(place: usize) -> Result<T, Refusal>
     ensures { told result ≡ refuses (malformed place) }
 {
@@ -75,7 +76,7 @@ fn good_numbers(m: usize, h: TableHeader) -> bool
 }
 
 #[tactic(auto, unfolding(crate::specs::Layout::numbers_at))]
-fn numbers_at(t: &[u8]) -> TableHeader
+pub fn numbers_at(t: &[u8]) -> TableHeader
     requires { header_size ≤ length t.now }
     ensures { result ≡ numbers_at t.now }
 {
@@ -126,9 +127,9 @@ pub fn row_at(t: &[u8], h: TableHeader, i: usize) -> Row
 
 // Whether a row's number is below 2^48 and at least `least`, and its record lies in the table of m bytes, behind the
 // directory. Plain numbers: 2^48 bounds the number itself, and the first row has a least too.
-#[tactic(auto, unfolding(crate::specs::Check::good_row))]
+#[tactic(auto, unfolding(crate::specs::Loop::good_from))]
 fn good_row(m: usize, h: TableHeader, least: u64, r: Row) -> bool
-    ensures { result ≡ good_row m h least r }
+    ensures { result ≡ good_from m h least r }
 {
     r.number.0 < NUMBER_END
         && least <= r.number.0

@@ -1,14 +1,12 @@
-use Rattle.bound.proofs.Calls.{every_count, every_bound, every_call_ends, every_bytes_end}
+use Rattle.bound.proofs.Calls.{every_run, every_way}
+use Rattle.bound.proofs.Bytes.{every_bytes}
 use Rattle.bound.proofs.calls_are_counted.Goals as goal
 
-pub returns-clause-counted : goal.returns-clause-counted
-returns-clause-counted c = every_count
+pub returns-clause-run : goal.returns-clause-run
+returns-clause-run c = every_run
 
-pub returns-clause-bounded : goal.returns-clause-bounded
-returns-clause-bounded c = every_bound
+pub returns-clause-way : goal.returns-clause-way
+returns-clause-way c = every_way
 
-pub returns-clause-ended : goal.returns-clause-ended
-returns-clause-ended c = every_call_ends
-
-pub returns-clause-all : goal.returns-clause-all
-returns-clause-all c = every_bytes_end
+pub returns-clause-bytes : goal.returns-clause-bytes
+returns-clause-bytes c = every_bytes

@@ -1,4 +1,4 @@
-use Rattle.bound.proofs.Leads.{every_part}
+use Rattle.bound.proofs.Stopped.{every_part}
 use Rattle.bound.proofs.Tables.{every_lookup, every_table, every_file, every_1024}
 use Rattle.bound.proofs.listings_are_bounded.Goals as goal
 

@@ -2,7 +2,7 @@
 use Rattle.listing.proofs.Inputs.{taken}
 use Rattle.listing.proofs.read_table.Goals as goal
 
-pub returns : goal.returns
-returns g c =
+pub returns-in-Ok-clause-ok : goal.returns-in-Ok-clause-ok
+returns-in-Ok-clause-ok g c =
     taken g.R.Read.remaining _ _ _ _ _ c.take.ensures.inner c.take.ensures.limit c.new-table.ensures.items
-    c.in_ok-read_to_end.ensures.bytes
+    c.in-Ok.ensures.bytes

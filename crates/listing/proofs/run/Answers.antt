@@ -1,21 +1,18 @@
 -- The listing of what was read is the input's.
-use Rattle.std.proofs.Common.{subst, sym, ap}
-use Rattle.std.specs.Prelude.{List, ℕ}
-use Rattle.std.specs.Io.KnownBytes.{Appends}
-use Rattle.lines.specs.Line.{lines_text}
-use Rattle.lines.specs.Listing.{most_parts, listing_of}
-use Rattle.lines.specs.Went.{StopsWithin}
-use Rattle.listing.proofs.Inputs.{of_input}
+use Rattle.std.specs.Prelude.{Ok, Err}
+use Rattle.listing.specs.declared.failed.Failed.TheVariants.{Write}
+use Rattle.listing.proofs.Inputs.{of_input, listed, stopped}
 use Rattle.listing.proofs.run.Goals as goal
 
-pub returns-in-Ok-write_listing : goal.returns-in-Ok-write_listing
-returns-in-Ok-write_listing g c =
-    of_input _ _ (λ text. Appends (g.W.Write.contents c.args.out.now)
-    (g.W.Write.contents c.write_listing.new.out) text) c.in-Ok.ensures
-    (rw (← c.deref.ensures.value) c.in-Ok-write_listing.ensures.ok)
+pub returns-in-Ok-write_listing-clause-known : goal.returns-in-Ok-write_listing-clause-known
+returns-in-Ok-write_listing-clause-known g c =
+    of_input (g.R.Read.remaining c.args.input) c.in-Ok.table.items (g.W.Write.contents c.args.out.now)
+    (g.W.Write.contents c.write_listing.new.out) (Ok c.outcome_of.result) c.in-Ok.ensures.ok
+    (listed _ _ _ _ _ _ _ c.deref.ensures.value c.deref-in-Ok-write_listing.ensures.value
+    c.in-Ok-write_listing.ensures.ok c.in-Ok-write_listing.ensures.ending c.outcome_of.ensures)
 
-pub returns : goal.returns
-returns g c =
-    of_input _ _ (λ text. StopsWithin (g.W.Write.contents c.args.out.now)
-    (g.W.Write.contents c.write_listing.new.out) text) c.in-Ok.ensures
-    (rw (← c.deref.ensures.value) c.in-Err-write_listing.ensures.err)
+pub returns-clause-known : goal.returns-clause-known
+returns-clause-known g c =
+    of_input (g.R.Read.remaining c.args.input) c.in-Ok.table.items (g.W.Write.contents c.args.out.now)
+    (g.W.Write.contents c.write_listing.new.out) (Err (Write c.in-Err-write_listing.error)) c.in-Ok.ensures.ok
+    (stopped _ _ _ _ c.in-Err-write_listing.error c.deref.ensures.value c.in-Err-write_listing.ensures.err)

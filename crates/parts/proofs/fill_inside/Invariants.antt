@@ -1,7 +1,7 @@
 -- What is told of the list from the loop's state is what is told from its start.
 use Rattle.std.specs.Prelude.{◌≡◌, ◌+◌, ◌-◌, ◌*◌, ◌≤◌, length}
 use Rattle.table.specs.Held.{record_of}
-use Rattle.items.specs.State.{Lies}
+use Rattle.items.specs.Lies.{Lies}
 use Rattle.items.specs.Items.{entries_of}
 use Rattle.parts.specs.Parts.{parts_by}
 use Rattle.parts.specs.Filled.{told_parts}

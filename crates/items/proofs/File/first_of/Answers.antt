@@ -1,7 +1,7 @@
 -- What the call reports, as the match found it, decides what comes of the walk.
 use Rattle.std.proofs.Common.{rules, ap, sym, ◌+◌, ◌∙◌, arith}
 use Rattle.std.specs.Prelude.{Result}
-use Rattle.fields.specs.Answer.{Answer, report}
+use Rattle.fields.specs.Answer.{Outcome, report}
 use Rattle.fields.specs.Told.{told}
 use Rattle.fields.specs.declared.Refusal.{Refusal}
 use Rattle.items.specs.Walked.{told_next}
@@ -21,7 +21,7 @@ items-preserved c =
 
 pub returns-in-Ok-None : goal.returns-in-Ok-None
 returns-in-Ok-None c =
-    ap (λ (a : Answer Item). report a (c.items.reads + c.next-walked.result.reads)) c.refused-answer.ensures
+    ap (λ (a : Outcome Item). report a (c.items.reads + c.next-walked.result.reads)) c.refused-answer.ensures
     ∙ first_ends _ _ _ _ _ _ c.items.invariant.same (told_next c.next-walked.result) c.next-walked.ensures.answer
     (search rules)
 

@@ -1,4 +1,5 @@
--- What each step of the two loops read is paid by what it left behind: each by entry_room, raw_room or list_room, and arithmetic.
+-- What each step of the two loops read is paid by what it left behind: each by entry_room, raw_room or list_room, and
+-- arithmetic.
 use Rattle.std.proofs.Common.{arith, sym, ap}
 use Rattle.items.specs.State.{left_in}
 use Rattle.items.proofs.Steps.{entry_room, raw_room, list_room, entry_passed, raw_list}

@@ -1,7 +1,8 @@
 -- What the walk gives from the loop's state is what it gives from its start; what it read is paid by what was left.
 use Rattle.std.specs.Prelude.{◌≡◌, ◌+◌, ◌*◌, ◌≤◌, length, IfSome}
 use Rattle.table.specs.Held.{record_of}
-use Rattle.items.specs.State.{Lies, weight}
+use Rattle.items.specs.Lies.{Lies}
+use Rattle.items.specs.State.{weight}
 use Rattle.items.specs.Items.{next_in, next_by}
 use Rattle.items.specs.Walked.{report_of}
 use Rattle.items.proofs.Steps.{after}

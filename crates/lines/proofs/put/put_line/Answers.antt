@@ -6,10 +6,6 @@ pub returns-in-Stopped : goal.returns-in-Stopped
 returns-in-Stopped c = rw c.in-Stopped.is (said (both (both c.put_words-end-in-Stopped.ensures
     c.put_words-end-in-Stopped-2.ensures) c.put_byte-in-Stopped.ensures) (search rules) (omega arith))
 
-pub returns-in-TableRefused : goal.returns-in-TableRefused
-returns-in-TableRefused c = rw c.in-TableRefused.is (said (both c.put_words-end-in-TableRefused.ensures
-    c.put_byte-in-TableRefused.ensures) (search rules) (omega arith))
-
 pub returns-in-Record : goal.returns-in-Record
 returns-in-Record c = rw c.in-Record.is (said (both (both c.put_words-end.ensures c.put_words-end-in-Record.ensures)
     c.put_byte.ensures) (search rules) (omega arith))

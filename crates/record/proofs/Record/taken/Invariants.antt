@@ -1,6 +1,6 @@
 -- After so many takes the reader keeps the record, and stands where the walk does.
 use Rattle.std.proofs.Common.{◌≡◌}
-use Rattle.record.specs.Reader.{place_of}
+use Rattle.record.specs.Places.{place_of}
 use Rattle.record.proofs.Record.taken.Given as goal
 
 abbrev pub invariant-loop : goal.invariant-loop

@@ -1,7 +1,8 @@
 -- Every row so far is good, and `least` is what the next one's number must reach.
 use Rattle.std.specs.Prelude.{◌≡◌}
 use Rattle.fields.specs.Answer.{gives}
-use Rattle.table.specs.Check.{least_at, rows_checked}
+use Rattle.table.specs.Check.{rows_checked}
+use Rattle.table.specs.Loop.{least_at}
 use Rattle.table.proofs.check.check_rows.Given as goal
 
 abbrev pub invariant-loop-i : goal.invariant-loop-i

@@ -1,0 +1,3 @@
+pub mod Escapes
+pub mod Fronts
+pub mod Moved

@@ -1,0 +1,10 @@
+-- The definition's chapter on the command: statuses, reasons, names and explanations.
+pub mod Status
+pub mod Names
+pub mod Reason
+pub mod Explain
+pub mod Given
+pub mod Read
+pub mod Moves
+pub mod Run
+pub mod Laws

@@ -1,0 +1,75 @@
+//! A table is read as far as it matters, so that a disk or an input without end costs neither minutes nor memory.
+ghost use Rattle.std.specs.Prelude.{◌≡◌, ◌≤◌, ◌<◌, length, take, IfOk, IfErr, IfSome};
+ghost use Rattle.std.specs.Io.KnownBytes.{Consumes, IsAtEnd};
+ghost use Rattle.command.specs.Moves.{Moves};
+ghost use Rattle.command.specs.Read.{IsEnough, IsUnread};
+
+use crate::Reason;
+use std::alloc::Global;
+use std::io;
+use std::io::{ErrorKind, Read};
+use table::reach;
+
+// How many bytes are read at once, at most.
+const CHUNK: usize = 65_536;
+
+// Reads once, also where an interruption comes first; with as many turns as a number counts, since a reader may be
+// interrupted for ever.
+#[tactic(auto, using(crate::proofs::Moved::kept_first))]
+fn read_once<R: Read>(input: &mut R, room: &mut [u8]) -> io::Result<usize>
+    ensures within { IfOk result (λ n. n ≤ length room.new) }
+    ensures bytes { IfOk result (λ n.
+        Consumes (R.remaining input.old) (R.remaining input.new) (take n room.new)) }
+    ensures end { IfOk result (λ n. n ≡ 0 → 0 < length room.new → IsAtEnd (R.remaining input.new)) }
+{
+    for _ in 0..u64::MAX {
+        match input.read(room) {
+            Ok(count) => return Ok(count),
+            Err(error) => {
+                if error.kind() != ErrorKind::Interrupted {
+                    return Err(error);
+                }
+            }
+        }
+    }
+    Err(io::Error::from(ErrorKind::TimedOut))
+}
+
+// Moves bytes from the input to the table's end, as many as one read gives.
+fn move_bytes<R: Read>(input: &mut R, room: &mut [u8], table: &mut Vec<u8>) -> Result<usize, Reason>
+    requires { 0 < length room.old }
+    ensures ok { IfOk result
+        (Moves (R.remaining input.old) (R.remaining input.new) table.old.items table.new.items) }
+    ensures err { IfErr result IsUnread }
+{
+    match read_once(input, room) {
+        Ok(count) => {
+            if table.extend_from_slice(&room[..count]).is_err() {
+                return Err(Reason::OutOfMemory);
+            }
+            Ok(count)
+        }
+        Err(error) => Err(Reason::Unreadable(error)),
+    }
+}
+
+/// Reads a table as far as it matters: its header, what that calls for, and no more.
+#[tactic(auto, using(crate::proofs::Moved::moved_bytes))]
+pub fn read_table<R: Read>(alloc: Global, input: &mut R) -> Result<Vec<u8>, Reason>
+    ensures ok { IfOk result (λ table. IfSome (R.remaining input.old) (IsEnough table.items)) }
+    ensures err { IfErr result IsUnread }
+{
+    let mut room = [0u8; CHUNK];
+    let mut table = Vec::new(alloc);
+    for _ in 0..u64::MAX {
+        let missing = reach(&table).saturating_sub(table.len());
+        if missing == 0 {
+            return Ok(table);
+        }
+        let most = missing.min(CHUNK);
+        if move_bytes(input, &mut room[..most], &mut table)? == 0 {
+            return Ok(table);
+        }
+    }
+    Err(Reason::Unreadable(io::Error::from(ErrorKind::TimedOut)))
+}

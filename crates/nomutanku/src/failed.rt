@@ -1,0 +1,37 @@
+//! Why the command goes no further.
+ghost use Rattle.std.specs.Prelude.{◌≡◌};
+
+use command::Status;
+use std::alloc::AllocError;
+use std::io;
+
+/// Why the command goes no further: there is no memory for its own work, or standard output takes no more.
+#[derive(Clone, Copy)]
+pub enum Failed {
+    Memory,
+    Output(io::Error),
+}
+
+impl From<AllocError> for Failed {
+    fn from(_error: AllocError) -> Failed {
+        Failed::Memory
+    }
+}
+
+impl Failed {
+    pub fn status(self) -> Status {
+        match self {
+            Failed::Memory => Status::Unreadable,
+            Failed::Output(_) => Status::NotWritten,
+        }
+    }
+
+    /// Says why, on standard error; not where a pipe's reader went away, which asked for no more.
+    pub fn tell(self, rt: &impl Eprint) {
+        let _ = match self {
+            Failed::Memory => rt.eprintln("nomutanku: out of memory"),
+            Failed::Output(error) if error.kind() == io::ErrorKind::BrokenPipe => Ok(()),
+            Failed::Output(error) => eprintln!(rt; "nomutanku: standard output: {error}"),
+        };
+    }
+}

@@ -1,0 +1,77 @@
+//! Lists tables of NTFS records: `nomutanku list [TABLE..]`, `nomutanku explain N` (docs/REFERENCE.md, "The command").
+#![tactic(auto)]
+
+mod explain;
+mod failed;
+mod given;
+mod options;
+mod tables;
+
+use clap::ArgMatches;
+use clap::error::ErrorKind;
+use command::{Given, Status};
+use failed::Failed;
+use std::io::IsTerminal;
+use std::process::ExitCode;
+use std::rt::{Env, Files};
+use std::{env, io};
+
+/// Does what the command line asks for.
+fn obey<R: Print + Eprint + Input + Files + AllocGlobal>(
+    rt: &R,
+    given: Given,
+    asked: &ArgMatches,
+) -> Result<Status, Failed> {
+    match asked.subcommand() {
+        Some(("list", options)) => tables::obey(rt, given, options),
+        Some(("explain", options)) => explain::obey(rt, options),
+        _ => Ok(Status::Usage),
+    }
+}
+
+/// Tells what is wrong with the command line, or prints the help or the version that it asks for.
+fn tell<R: Print + Eprint>(rt: &R, error: &clap::Error) -> Result<Status, Failed> {
+    if error.kind() == ErrorKind::OutOfMemory {
+        return Err(Failed::Memory);
+    }
+    let printed = error.print(rt);
+    if error.use_stderr() {
+        return Ok(Status::Usage);
+    }
+    printed.map_err(Failed::Output)?;
+    Ok(Status::Whole)
+}
+
+/// Reads the command line and does what it asks for.
+fn run<R: Print + Eprint + Input + Files + Env + AllocGlobal>(
+    rt: &R,
+    given: Given,
+) -> Result<Status, Failed> {
+    let words = match env::args(rt) {
+        Ok(words) => words,
+        Err(error) if error.kind() == io::ErrorKind::OutOfMemory => return Err(Failed::Memory),
+        Err(_) => {
+            let _ = eprintln!(rt;
+                "nomutanku: a word of the command line is no UTF-8: hand such a file in by standard input"
+            );
+            return Ok(Status::Usage);
+        }
+    };
+    let words: Vec<String> = words.collect(rt.alloc())?;
+    match options::command(rt.alloc())?.try_get_matches_from(words.as_slice()) {
+        Ok(asked) => obey(rt, given, &asked),
+        Err(error) => tell(rt, &error),
+    }
+}
+
+fn main(rt: HostRuntime) -> ExitCode {
+    let given = given::given(&rt, rt.stdin().is_terminal());
+    let status = match run(&rt, given) {
+        Ok(status) => status,
+        Err(failed) => {
+            failed.tell(&rt);
+            failed.status()
+        }
+    };
+    ExitCode::from(status.code())
+}

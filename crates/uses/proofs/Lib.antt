@@ -1,0 +1,2 @@
+-- What the prover is told.
+pub mod Few

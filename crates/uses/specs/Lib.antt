@@ -1,0 +1,2 @@
+-- What the callers give, over the answers of a walk.
+pub mod Chains

@@ -1,0 +1,171 @@
+"""A second reading of the rules on parts and on the listing (RULES 15 and 18): the whole listing of a table.
+
+The parts are read here, from the rules too, apart from parts.py on purpose: the tests of the parts hold the library
+to that reading, those of the listing to this one, and where both pass two readings agree.
+"""
+from typing import NamedTuple
+
+from .answers import Refusal, Span
+from .entries import entry
+from .items import fresh, next_in, table_of
+from .record import KNOWN, find, full_of, name, value
+
+# RULES 18: a longer input counts as malformed; room for the parts of an item
+MOST = 65536
+ROOM = 157
+
+
+class Part(NamedTuple):
+    file: int
+    offset: int
+    vcn: int
+    runs: int
+    count: int
+    size: int
+
+
+# Parts.
+
+def part_of(record, number, rows, e, place):
+    """The part that an entry leads to: (reads, part or refusal). The entry stands at `place` in the base record."""
+    # the base record wins over a row of its number (RULES 11)
+    if e.file == number:
+        found = record
+    elif e.file in rows:
+        found = rows[e.file]
+    else:
+        return 0, Refusal(17, number, place)
+    if found[:4] != b"FILE":
+        return 0, Refusal(2, e.file, 0)
+    reads, a = find(found, e.file, e.ty, e.instance, number, place)
+    if isinstance(a, Refusal):
+        return reads, a
+    # 19, then 7, then 12 (RULES 15)
+    if a.resident:
+        return reads, Refusal(19, e.file, a.offset)
+    try:
+        f = full_of(found, e.file, a)
+    except Refusal as refusal:
+        return reads, refusal
+    if f.runs > a.length:
+        return reads, Refusal(12, e.file, a.offset)
+    # the VCN is the attribute's own lowest; the runs go up to its end
+    return reads, Part(e.file, a.offset, f.lowest, a.offset + f.runs, a.length - f.runs, f.size)
+
+
+def parts_of(record, number, rows, rest, room=ROOM):
+    """The parts of a non-resident item found by the entry that begins `rest`: (parts, refusal or None, reads).
+
+    By that entry and those directly behind it (RULES 15).
+    """
+    out, reads, first, at = [], 0, None, rest.start
+    while True:
+        try:
+            # 14, 15, 16
+            e = entry(record[at:rest.end], number, at)
+        except Refusal as refusal:
+            return out, refusal, reads
+        if e is None:
+            # where no entry is given the parts are whole
+            return out, None, reads
+        # RULES 17: the entry that ends the parts counts too
+        reads += 1
+        first = e if first is None else first
+        # 6 where the instance agrees and the type is unknown: so a first entry of unknown type is 6
+        if e.instance == first.instance and e.ty not in KNOWN:
+            return out, Refusal(6, number, at), reads
+        if (e.instance, e.ty) != (first.instance, first.ty):
+            return out, None, reads
+        # 20 comes before the lookup
+        if len(out) == room:
+            return out, Refusal(20, number, at), reads
+        more, part = part_of(record, number, rows, e, at)
+        reads += more
+        if isinstance(part, Refusal):
+            return out, part, reads
+        out.append(part)
+        at += e.length
+
+
+# The listing.
+
+def name_said(record, number, at):
+    """Where a name stands; an empty one at 0 with 0 bytes."""
+    try:
+        return "name %d %d" % name(record, number, at)
+    except Refusal as refusal:
+        return "name refused %d" % refusal.number
+
+
+def value_said(record, number, at):
+    """Where a value or its runs stand."""
+    try:
+        told = value(record, number, at)
+    except Refusal as refusal:
+        return "value refused %d" % refusal.number
+    if isinstance(told, Span):
+        return "value resident %d %d" % told
+    return "value runs %d %d size %d" % told
+
+
+def item_lines(record, number, rows, item):
+    """(lines of an item, reads of its parts)."""
+    # an item of a looked-up record has its name and value there
+    held = record if item.file == number else rows[item.file]
+    a = item.attribute
+    # an item of the raw walk has no parts; a resident one has its value where it stands
+    if not item.rest.there:
+        ended, under, reads = value_said(held, item.file, a.offset), [], 0
+    else:
+        found, refusal, reads = parts_of(record, number, rows, item.rest)
+        # the size is the first part's data size
+        tail = "size %d" % found[0].size if refusal is None else "refused %d" % refusal.number
+        ended = "value parts %d %s" % (len(found), tail)
+        under = ["part %d %d %d %d %d" % part[:5] for part in found]
+    line = "attr %d %d %d %d %d %s %s" % (
+        item.file, a.offset, a.ty, a.length, a.instance, name_said(held, item.file, a.offset), ended)
+    return [line] + under, reads
+
+
+def lines(table, wanted=None, most=MOST):
+    """The lines (RULES 18): one alone where the table is malformed or longer than `most`, or lacks what is wanted,
+    the record with a number or else a base row."""
+    try:
+        if len(table) > most:
+            raise Refusal(21, 0, 0)
+        t = table_of(table)
+    except Refusal:
+        yield "table refused 21"
+        return
+    if wanted is not None and wanted not in t.rows:
+        yield "table refused 17"
+        return
+    if wanted is None and t.base == len(t.rows):
+        yield "table refused 21"
+        return
+    number = list(t.rows)[t.base] if wanted is None else wanted
+    record = t.rows[number]
+    yield "record %d size %d" % (number, t.size)
+    # a refusal of the walk, or of the base record, is the last line
+    if record[:4] != b"FILE":
+        yield "stopped 2 reads 0"
+        return
+    state, reads = fresh(record), 0
+    while True:
+        answer, state, more = next_in(record, number, t.rows, state)
+        # the counts of all calls are added up, refusing ones too
+        reads += more
+        if answer is None:
+            yield "end reads %d" % reads
+            return
+        if isinstance(answer, Refusal):
+            yield "stopped %d reads %d" % (answer.number, reads)
+            return
+        said, more = item_lines(record, number, t.rows, answer)
+        reads += more
+        yield from said
+
+
+def listing(table, wanted=None, most=MOST):
+    """The listing's bytes: lines end in one LF, the last too."""
+    return "".join(line + "\n" for line in lines(bytes(table), wanted, most)).encode("ascii")
