@@ -1,12 +1,13 @@
 #!/usr/bin/env python3
 """Counts the places that docs/DESIGN-PASS.md is about: places of an older form in crates/*/src.
 
-    docs/places.py TREE            every place: point, crate, file, line (function or type), and the pattern that found it
+    docs/places.py TREE            every place: point, crate, file, line (function or type), and the pattern that
+                                   found it
     docs/places.py --count TREE    the counts alone
 
-TREE is a commit or a folder with crates/ in it. A place is a function or a type; one in which a form stands twice is one
-place of its point. A pattern finds what looks like the form; the page says which of these are none, and which others
-were found by reading. Point 8 counts in proofs/."""
+TREE is a commit or a folder with crates/ in it. A place is a function or a type; one in which a form stands twice is
+one place of its point. A pattern finds what looks like the form; the page says which of these are none, and which
+others were found by reading. Point 8 counts in proofs/."""
 import collections
 import io
 import itertools
@@ -16,7 +17,8 @@ import subprocess
 import sys
 import tarfile
 
-# A pattern: point, name, which items it looks at (fn, struct, enum), where in them (head, clauses, body, all), and the form.
+# A pattern: point, name, which items it looks at (fn, struct, enum), where in them (head, clauses, body, all), and the
+# form.
 PATTERNS = [
     (1, "enum of the shape of Option", "enum", "shape", r"^(0 1|1 0)$"),
     (1, "enum of the shape of Result", "enum", "shape", r"^1 1$"),
@@ -26,7 +28,8 @@ PATTERNS = [
     (1, "refusal as a number", "struct", "body", r"\bnumber: u8\b"),
     (1, "refusal as a number", "enum", "body", r"\(u8\)"),
     (1, "refusal as a number", "fn", "head", r"\bn: u8\b"),
-    (1, "refusal as a number", "fn", "body", r"\b(number: \d+|no_\w+\(\d+)|\br\.number (as|\|)|\(r\.number\)|_line\(out, at, (r\.number|n)|refused\", \d+\)"),
+    (1, "refusal as a number", "fn", "body",
+     r"\b(number: \d+|no_\w+\(\d+)|\br\.number (as|\|)|\(r\.number\)|_line\(out, at, (r\.number|n)|refused\", \d+\)"),
     (1, "kind as a number", "struct", "body", r"\bkind: u8\b"),
     (1, "kind as a number", "fn", "body", r"\bmatch \w+\.kind \{\n\s*0 =>|\bkind: \w+\[\d+\]"),
     (1, "type as a number", "fn", "body", r"0xFFFF_FFFF|\bty == 0x|\bty % 0x|\bty\) == 0x"),
@@ -39,16 +42,20 @@ PATTERNS = [
     (4, "equality of a type and an instance", "fn", "body", r"\.instance (==|!=) \w+(\.instance)?"),
     (4, "order of the inner number", "fn", "body", r"<= number\b|\.0 \+ 1"),
     (4, "equality with a blank", "fn", "body", r"\| \w+ as u64 == 0"),
-    (4, "a default by hand", "fn", "body", r"^\s*\w+ \{\n(\s*\w+: (false|0|\w+\(0\)|\w+ \{ from: 0, bytes: 0 \}),?\n)+\s*\}\s*$"),
+    (4, "a default by hand", "fn", "body",
+     r"^\s*\w+ \{\n(\s*\w+: (false|0|\w+\(0\)|\w+ \{ from: 0, bytes: 0 \}),?\n)+\s*\}\s*$"),
     (4, "a number from bytes by arithmetic", "fn", "body", r"0x1?_?0*100?(_0000)* \* \w+|\+ 0x1\w* \*"),
     (4, "a conversion by a function", "fn", "head", r"^(pub )?fn (wide\w*|stage_of|list_of|state_of)\((x|o|q|self): "),
     (4, "a conversion by fields", "fn", "body", r"to: p\.from \+ p\.bytes|end: l\.end,\n\s*more: l\.more"),
-    (4, "fields put into an array of numbers", "fn", "body", r"\[\n?\s*\w+(\.\w+)+( as u64)?,[^\]]*\.\w+( as u64)?,?\s*\]"),
+    (4, "fields put into an array of numbers", "fn", "body",
+     r"\[\n?\s*\w+(\.\w+)+( as u64)?,[^\]]*\.\w+( as u64)?,?\s*\]"),
     (4, "digits by hand", "fn", "body", r"b'0' \+|/ 10\b|% 10\b|/ 100\b"),
     (4, "printing by hand", "fn", "head", r"\b(fn (put|tell|say)_?\w*|fn \w+_line)\b[\s\S]*\bout: &mut"),
-    (6, "array with a count beside it", "struct", "body", r"\[\w+; \d+\],(\n[^\n]*)*\bcount: usize|count: usize(\n[^\n]*)*\[\w+; \d+\]"),
+    (6, "array with a count beside it", "struct", "body",
+     r"\[\w+; \d+\],(\n[^\n]*)*\bcount: usize|count: usize(\n[^\n]*)*\[\w+; \d+\]"),
     (6, "a count beside a lent list", "struct", "body", r"\bcount: usize\b|\bend: usize\b"),
-    (6, "a fixed array beside the answer that tells its length", "struct", "body", r"answer: [^\n]*\n\s*(pub )?name: \[u8; \d+\]"),
+    (6, "a fixed array beside the answer that tells its length", "struct", "body",
+     r"answer: [^\n]*\n\s*(pub )?name: \[u8; \d+\]"),
     (6, "a lent buffer and its end", "fn", "head", r"\bout: &(\'\w+ )?mut \[u8\],\s*\w+: usize"),
     (6, "a lent buffer that is filled", "fn", "head", r"\b(out|space): &(\'\w+ )?mut \[u8\][,)]"),
     (6, "records as rows of plain numbers", "fn", "head", r"\bnumbers: &(\'\w+ )?(mut )?\[u64\]"),
@@ -63,8 +70,17 @@ PATTERNS = [
     (7, "the names of steps", "enum", "shape", r"^(0 1|1 0|0 0 .*)$"),
     (7, "a function pointer or a dyn value", "fn", "all", r"\bfn\(|\bdyn \w"),
 ]
-TYPE_WORDS = {"u8", "u16", "u32", "u64", "usize", "bool", "str", "mut", "pub", "fn", "let", "match", "if", "else", "return", "loop",
-              "for", "in", "while", "break", "as", "Ok", "Err", "Some", "None", "Result", "Option", "self", "Self", "impl"}
+TYPE_WORDS = {"u8", "u16", "u32", "u64", "usize", "bool", "str", "mut", "pub", "fn", "let", "match", "if", "else",
+              "return", "loop", "for", "in", "while", "break", "as", "Ok", "Err", "Some", "None", "Result", "Option",
+              "self", "Self", "impl"}
+# A function or a type begins here: how deep, what stands before its kind, its kind and its name.
+BEGINS = r"^(\s*)((?:pub(?:\(\w+\))? )?(?:const )?(?:unsafe )?(?:extern \"C\" )?)(fn|struct|enum) (\w+)"
+# What a clause on what is handed in says, and what is handed in: its name and its type.
+REQUIRED = r"requires (?:\w+ )?\{([\s\S]*?)\}\s*(?=\n\s*(?:requires|ensures|decreases)|$)"
+HANDED_IN = (r"[(,] ?(?:mut )?(\w+): "
+             r"((?:&(?:'\w+ )?(?:mut )?)?[\w:]+(?:<[^>]*>)?|&(?:'\w+ )?(?:mut )?\[\w+\])")
+# The files of proofs by hand that are no lemmas.
+BY_HAND = {"Answers.antt": "answers", "Invariants.antt": "invariants"}
 
 
 class Item:
@@ -110,46 +126,57 @@ def files_of(tree):
                 yield member.name, tar.extractfile(member).read().decode("utf-8")
 
 
+def last_line(lines, start, indent, kind):
+    """The last line of the function or type that begins at a line."""
+    if kind != "fn" and lines[start].rstrip().endswith(";"):
+        return start
+    end = start
+    while end + 1 < len(lines):
+        if end > start and re.match("^" + indent + r"(\}|\{\})$", lines[end]):
+            break
+        if end == start and re.search(r"\{.*\}$", lines[end]):
+            break
+        if kind == "fn" and lines[end].rstrip().endswith(";") and "{" not in "".join(lines[start:end + 1]):
+            break
+        end += 1
+    return end
+
+
+def parts_of(lines, indent):
+    """The lines of a function without comments: those of its head, of its clauses and of its body."""
+    head, clauses, body, state = [], [], [], "head"
+    for line in lines:
+        code = line.split("//")[0].rstrip()
+        if state != "body" and re.match(r"^\s*(requires|ensures|decreases|where)\b", line):
+            state = "clauses" if not line.strip().startswith("where") else state
+        if state != "body" and (re.match("^" + indent + r"\{", line) or (state == "head" and code.endswith("{"))):
+            if state == "head" and not re.match("^" + indent + r"\{", line):
+                head.append(code[:-1])
+            state = "body"
+            continue
+        {"head": head, "clauses": clauses, "body": body}[state].append(code)
+    head[:1] = [line.strip() for line in head[:1]]
+    if body and body[-1].strip() == "}":
+        body.pop()
+    return head, clauses, body
+
+
 def items_of(path, text):
     """The functions and types of a file, laid out as `rt fmt` lays them out."""
     crate, file = path.split("/")[1], "/".join(path.split("/")[2:])
     lines = text.split("\n")
     i = 0
     while i < len(lines):
-        m = re.match(r"^(\s*)((?:pub(?:\(\w+\))? )?(?:const )?(?:unsafe )?(?:extern \"C\" )?)(fn|struct|enum) (\w+)", lines[i])
+        m = re.match(BEGINS, lines[i])
         if not m:
             i += 1
             continue
-        indent, kind, name, start = m.group(1), m.group(3), m.group(4), i
-        end = i
-        one_line = kind != "fn" and lines[i].rstrip().endswith(";")
-        while not one_line and end + 1 < len(lines):
-            if end > start and re.match("^" + indent + r"(\}|\{\})$", lines[end]):
-                break
-            if end == start and re.search(r"\{.*\}$", lines[end]):
-                break
-            if kind == "fn" and lines[end].rstrip().endswith(";") and "{" not in "".join(lines[start:end + 1]):
-                break
-            end += 1
-        chunk = lines[start:end + 1]
-        head, clauses, body, state = [], [], [], "head"
-        for line in chunk:
-            bare = line.split("//")[0].rstrip()
-            if kind != "fn":
-                body.append(bare)
-                continue
-            if state != "body" and re.match(r"^\s*(requires|ensures|decreases|where)\b", line):
-                state = "clauses" if not line.strip().startswith("where") else state
-            if state != "body" and (re.match("^" + indent + r"\{", line) or (state == "head" and bare.endswith("{"))):
-                if state == "head" and not re.match("^" + indent + r"\{", line):
-                    head.append(bare[:-1])
-                state = "body"
-                continue
-            {"head": head, "clauses": clauses, "body": body}[state].append(bare)
-        if kind == "fn" and body and body[-1].strip() == "}":
-            body.pop()
-        yield Item(crate, file, start + 1, kind, name, len(indent), "\n".join(h.strip() if k == 0 else h for k, h in enumerate(head)),
-                   "\n".join(clauses), "\n".join(body))
+        indent, kind, name = m.group(1), m.group(3), m.group(4)
+        end = last_line(lines, i, indent, kind)
+        taken = lines[i:end + 1]
+        # a type is all body
+        parts = parts_of(taken, indent) if kind == "fn" else ([], [], [line.split("//")[0].rstrip() for line in taken])
+        yield Item(crate, file, i + 1, kind, name, len(indent), *map("\n".join, parts))
         # Functions nested in an impl block stand at a deeper indent, so only what was taken is passed over.
         i = end + 1
 
@@ -186,7 +213,8 @@ def bare(text):
 
 
 def twins(items):
-    """Functions that are the same but for names, types and constants; functions of one name that are no methods; types with the same fields."""
+    """Functions that are the same but for names, types and constants; functions of one name that are no methods; types
+    with the same fields."""
     groups = collections.defaultdict(list)
     for item in items:
         if item.kind == "fn":
@@ -213,18 +241,20 @@ def twins(items):
     for (how, _), members in groups.items():
         if len({m.where() for m in members}) > 1:
             for m in members:
-                others = ", ".join(o.name if o.crate == m.crate else o.crate + " " + o.name for o in members if o is not m)
+                others = ", ".join(
+                    o.name if o.crate == m.crate else o.crate + " " + o.name for o in members if o is not m)
                 places.setdefault(m.where(), []).append(f"{how}: {others}")
     return places
 
 
 def facts(items):
-    """Clauses on what is handed in that stand in three functions or more, and parameters that travel together in three or more."""
+    """Clauses on what is handed in that stand in three functions or more, and parameters that travel together in three
+    or more."""
     clauses, pairs = collections.defaultdict(list), collections.defaultdict(list)
     for item in items:
         if item.kind != "fn":
             continue
-        for clause in re.findall(r"requires (?:\w+ )?\{([\s\S]*?)\}\s*(?=\n\s*(?:requires|ensures|decreases)|$)", item.clauses):
+        for clause in re.findall(REQUIRED, item.clauses):
             for fact in clause.split("×"):
                 fact = re.sub(r"\b\w+\.list\.", "list.", " ".join(fact.strip(" ()").split()))
                 fact = re.sub(r"\b[lc]\.(list\.)?(from|to)\b", r"list.\2", fact).replace(".now", "").replace(".old", "")
@@ -235,8 +265,7 @@ def facts(items):
                 fact = re.sub(r"Inside .*|h\.offset \+ h\.length ≤ N", "an attribute lies inside", fact)
                 clauses[fact].append(item)
         head = re.sub(r"\s+", " ", item.head)
-        listed = re.findall(r"[(,] ?(?:mut )?(\w+): ((?:&(?:'\w+ )?(?:mut )?)?[\w:]+(?:<[^>]*>)?|&(?:'\w+ )?(?:mut )?\[\w+\])", head)
-        names = [(n, re.sub(r"'\w+ ", "", t)) for n, t in listed]
+        names = [(n, re.sub(r"'\w+ ", "", t)) for n, t in re.findall(HANDED_IN, head)]
         names = [(n, t) for n, t in names if t not in ("&mut impl", "&mut W", "&mut R")]
         for pair in itertools.combinations(names, 2):
             pairs[pair].append(item)
@@ -271,8 +300,8 @@ def names_of(text):
 
 
 def proofs(tree):
-    """For each crate: answers and invariants by hand, and lemmas, with their files and lines; how many answers have a shape that two
-    others have too, and how many lemmas nothing cites."""
+    """For each crate: answers and invariants by hand, and lemmas, with their files and lines; how many answers have a
+    shape that two others have too, and how many lemmas nothing cites."""
     rows, shapes, lemmas, words = collections.OrderedDict(), collections.defaultdict(list), [], collections.Counter()
     for path, text in tree:
         words.update(set(re.findall(r"[^\s(){}.,;:]+", text)) if not path.endswith("/Lib.antt") else [])
@@ -280,12 +309,15 @@ def proofs(tree):
         if len(parts) < 4 or parts[2] != "proofs" or not path.endswith(".antt"):
             continue
         row = rows.setdefault(parts[1], collections.Counter())
-        kind = {"Answers.antt": "answers", "Invariants.antt": "invariants"}.get(parts[-1], "lemmas") if len(parts) > 4 else "lemmas"
+        kind = BY_HAND.get(parts[-1], "lemmas") if len(parts) > 4 else "lemmas"
         row[kind + " files"] += 1
         row[kind + " lines"] += text.count("\n")
         if kind == "lemmas":
-            row[kind] += len(names_of(text))
-            lemmas += [(parts[1], n, len(re.findall(r"(?<![^\s(){}.,;:])" + re.escape(n) + r"(?![^\s(){}.,;:])", text))) for n in names_of(text)]
+            names = names_of(text)
+            row[kind] += len(names)
+            for name in names:
+                here = re.findall(r"(?<![^\s(){}.,;:])" + re.escape(name) + r"(?![^\s(){}.,;:])", text)
+                lemmas.append((parts[1], name, len(here)))
         else:
             goals = re.split(r"(?m)^(?=(?:abbrev )?pub \S+ : goal\.)", text)[1:]
             row[kind] += len(goals)
@@ -303,19 +335,25 @@ def proofs(tree):
     return rows
 
 
+def order(where):
+    """What places are ordered by: the crate and the file, then the line."""
+    return where.split(":")[0], int(re.search(r":(\d+)", where).group(1))
+
+
 def main():
     args = [a for a in sys.argv[1:] if a != "--count"]
     if len(args) != 1:
         sys.exit(__doc__)
     tree = list(files_of(args[0]))
-    items = [i for path, text in tree if path.split("/")[2] == "src" and path.endswith(".rt") for i in items_of(path, text)]
+    sources = [(path, text) for path, text in tree if path.split("/")[2] == "src" and path.endswith(".rt")]
+    items = [i for path, text in sources for i in items_of(path, text)]
     found = by_pattern(items)
     found[2], found[5] = twins(items), facts(items)
     if "--count" not in sys.argv:
         for point in sorted(found):
             print(f"\n## {point}\n")
-            for where, why in sorted(found[point].items(), key=lambda p: (p[0].split(":")[0], int(re.search(r":(\d+)", p[0]).group(1)))):
-                print(f"{where}: {'; '.join(dict.fromkeys(why))}")
+            for where in sorted(found[point], key=order):
+                print(f"{where}: {'; '.join(dict.fromkeys(found[point][where]))}")
     rows = proofs(tree)
     print("\n## counts\n")
     print(f"functions {sum(i.kind == 'fn' for i in items)}, types {sum(i.kind != 'fn' for i in items)}")
@@ -323,9 +361,12 @@ def main():
         print(f"point {point}: {len(found[point])}")
     total = sum(rows.values(), collections.Counter())
     for crate, row in list(rows.items()) + [("all", total)]:
-        print(f"point 8, {crate}: answers {row['answers']} ({row['answers files']} files, {row['answers lines']} lines; alike {row['alike']}), "
+        print(f"point 8, {crate}: "
+              f"answers {row['answers']} ({row['answers files']} files, {row['answers lines']} lines; "
+              f"alike {row['alike']}), "
               f"invariants {row['invariants']} ({row['invariants files']} files, {row['invariants lines']} lines), "
-              f"lemmas {row['lemmas']} ({row['lemmas files']} files, {row['lemmas lines']} lines; cited nowhere {row['uncited']})")
+              f"lemmas {row['lemmas']} ({row['lemmas files']} files, {row['lemmas lines']} lines; "
+              f"cited nowhere {row['uncited']})")
 
 
 main()

@@ -1,8 +1,9 @@
-/* springs IMAGE SIZE <TEXT: writes the text as /springs.csv into an NTFS image, in pieces of SIZE bytes, through libntfs-3g.
+/* springs IMAGE SIZE <TEXT: writes the text as /springs.csv into an NTFS image, in pieces of SIZE bytes, through
+ * libntfs-3g.
  *
  * Two things are steered, so that the stream comes to lie in parts: only every second cluster of the data zone is free
- * while the file is written, so that each cluster is a run of its own, and the stream begins in a record of its own, so that its
- * parts have one instance. What the records then look like is the library's doing. Nothing is mounted. */
+ * while the file is written, so that each cluster is a run of its own, and the stream begins in a record of its own, so
+ * that its parts have one instance. What the records then look like is the library's doing. Nothing is mounted. */
 #include <stdio.h>
 #include <stdlib.h>
 #include <string.h>

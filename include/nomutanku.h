@@ -6,7 +6,8 @@
  *
  *     cc -std=c11 -Iinclude program.c crates/cabi/out/libcabi.a -o program
  *
- * It needs the C library alone. tests/cabi.c is a program that uses it.
+ * or, where ./install has put both in place, with -lnomutanku. It needs the C library alone. tests/cabi.c is a program
+ * that uses it.
  */
 #ifndef NOMUTANKU_H
 #define NOMUTANKU_H

@@ -28,7 +28,9 @@ static _Noreturn void stop(int status, const char *what, const char *name, size_
     exit(status);
 }
 
-/* A block of exactly so many bytes, so that a tool which looks on sees a read past its end; one byte where it is empty. */
+/*
+ * A block of exactly so many bytes, so that a tool which looks on sees a read past its end; one byte where it is empty.
+ */
 static uint8_t *block_of(size_t size)
 {
     uint8_t *block = malloc(size > 0 ? size : 1);

@@ -1,8 +1,8 @@
 """What the crates cite is there: each "RULES n" or "RULES n.m" below crates/ names a section of docs/RULES.md.
 
-A section n is a heading "## n. ..", its rule n.m a paragraph that begins "**n.m". The links of README.md and docs/ lead to
-files and headings that are there, and what they name between backticks as `crate::name` or as a path is there too; pages
-that tell of what was, and of the Rust, may name what is gone.
+A section n is a heading "## n. ..", its rule n.m a paragraph that begins "**n.m". The links of README.md and docs/ lead
+to files and headings that are there, and what they name between backticks as `crate::name` or as a path is there too;
+pages that tell of what was, and of the Rust, may name what is gone.
 """
 import glob
 import os
@@ -13,13 +13,15 @@ import lib  # which ends a run under -O: the checks' own tests are asserts
 
 ROOT = os.path.dirname(os.path.dirname(os.path.abspath(__file__)))
 
-# "RULES 4", "RULES 4.2", and more of them behind commas, dashes and "and": "RULES 7 and 8", "RULES 10.3, 10.4", "RULES 3 to 5"
+# "RULES 4", "RULES 4.2", and more of them behind commas, dashes and "and": "RULES 7 and 8", "RULES 10.3, 10.4",
+# "RULES 3 to 5"
 CITED = re.compile(r"\bRULES((?:(?:,| and| to|-)? ?\d+(?:\.\d+)?)+)")
 
 
 def sections(text):
     """The sections of the rules, and the numbered paragraphs in them."""
-    return set(re.findall(r"^## (\d+)\. ", text, re.MULTILINE)) | set(re.findall(r"^\*\*(\d+\.\d+)[ .*]", text, re.MULTILINE))
+    sections = set(re.findall(r"^## (\d+)\. ", text, re.MULTILINE))
+    return sections | set(re.findall(r"^\*\*(\d+\.\d+)[ .*]", text, re.MULTILINE))
 
 
 def faults(text, known):
@@ -27,13 +29,15 @@ def faults(text, known):
     found = []
     for at, line in enumerate(text.split("\n"), 1):
         for cited in CITED.findall(line):
-            found += [(at, "RULES has no %s" % number) for number in re.findall(r"\d+(?:\.\d+)?", cited) if number not in known]
+            numbers = re.findall(r"\d+(?:\.\d+)?", cited)
+            found += [(at, "RULES has no %s" % number) for number in numbers if number not in known]
     return found
 
 
 def heading_anchors(text):
     """What a link may say behind `#` to come to a heading of a page."""
-    return {re.sub(r"[^\w\- ]", "", line.lstrip("# ").lower()).replace(" ", "-") for line in text.split("\n") if line.startswith("#")}
+    heads = [line.lstrip("# ").lower() for line in text.split("\n") if line.startswith("#")]
+    return {re.sub(r"[^\w\- ]", "", head).replace(" ", "-") for head in heads}
 
 
 def link_faults(name, text):
@@ -41,7 +45,8 @@ def link_faults(name, text):
     found = []
     for at, line in enumerate(text.split("\n"), 1):
         for path, anchor in re.findall(r"\]\((?!https?:)([^)#]*)(?:#([^)]*))?\)", line):
-            target = os.path.normpath(os.path.join(ROOT, os.path.dirname(name), path)) if path else os.path.join(ROOT, name)
+            target = os.path.join(ROOT, os.path.dirname(name), path) if path else os.path.join(ROOT, name)
+            target = os.path.normpath(target)
             if not os.path.exists(target):
                 found.append((at, "no file %s" % path))
             elif anchor and anchor not in heading_anchors(open(target, encoding="utf-8").read()):
@@ -64,7 +69,8 @@ def code_of_crates():
 
 
 def is_path(named):
-    """Whether a path is there: from the top, in a crate or in each crate, a definition without its ending, or an edit."""
+    """Whether a path is there: from the top, in a crate or in each crate, a definition without its ending, or an
+    edit."""
     crate, _, edit = named.partition("/")
     tries = [named, "crates/" + named, "crates/%s.antt" % named, "crates/*/" + named, "crates/*/%s.antt" % named,
              "crates/%s/must-fail/%s.edit" % (crate, edit)]
@@ -95,8 +101,10 @@ def self_test(known):
         (good + "-- RULES 4 and 99", 3),
     ):
         assert [at for at, _ in faults(wrong, known)] == [line], wrong
-    assert link_faults("README.md", "[a](docs/RULES.md#19-the-table-of-refusals) [b](#x)\n# X\n") == [(1, "no heading #x")]
-    assert link_faults("docs/A.md", "[a](RULES.md) [b](../README.md) [c](docs/RULES.md)") == [(1, "no file docs/RULES.md")]
+    links = "[a](docs/RULES.md#19-the-table-of-refusals) [b](#x)\n# X\n"
+    assert link_faults("README.md", links) == [(1, "no heading #x")]
+    links = "[a](RULES.md) [b](../README.md) [c](docs/RULES.md)"
+    assert link_faults("docs/A.md", links) == [(1, "no file docs/RULES.md")]
     assert name_faults("`a::b::c` `a::D` `std::x` `docs/RULES.md` `crates/fields`", {"a": "pub fn c() struct D"}) == []
     assert name_faults("`a::gone`\n`docs/GONE.md`", {"a": "fn c"}) == [(1, "no a::gone"), (2, "no path docs/GONE.md")]
     assert faults("// RULES 21\n", known) != []

@@ -1,12 +1,12 @@
 """What must be believed is what docs/DEFINITION.md says, and no more than it says.
 
 The page puts each file of crates/*/specs into one class: the definition of the rules, what calls hand out, laws, the
-theorem, or proofs alone. By name this computes which definitions the contracts of public calls reach, and which those of
-laws: from the words of their `ensures` and of ghost fields, by the `ghost use` lines, through the bodies of definitions
-and their `use` lines. Faults are a definition of the rules, or of what calls hand out, that no call reaches; a law or a
-part of the theorem that no contract reaches; a definition for proofs alone that a contract reaches; more lines of rules
-than MOST; a file in no class, or in two; and a paragraph of docs/RULES.md that no row of the page names. A word counts
-wherever it stands, so a variable spelled like a definition may count as one.
+theorem, or proofs alone. By name this computes which definitions the contracts of public calls reach, and which those
+of laws: from the words of their `ensures` and of ghost fields, by the `ghost use` lines, through the bodies of
+definitions and their `use` lines. Faults are a definition of the rules, or of what calls hand out, that no call
+reaches; a law or a part of the theorem that no contract reaches; a definition for proofs alone that a contract reaches;
+more lines of rules than MOST; a file in no class, or in two; and a paragraph of docs/RULES.md that no row of the page
+names. A word counts wherever it stands, so a variable spelled like a definition may count as one.
 """
 import collections
 import glob
@@ -103,7 +103,8 @@ class Specs:
             self.names[crate, file], self.aliases[crate, file] = imported(imports)
 
     def home(self, crate, file, name, seen=()):
-        """Where a name that is asked of a file is defined: there, as a constructor there, or where a `pub use` has it."""
+        """Where a name that is asked of a file is defined: there, as a constructor there, or where a `pub use` has
+        it."""
         known = self.files.get((crate, file), {})
         if name in known:
             return {(crate, file, name)}
@@ -171,7 +172,8 @@ def reached(specs, sources, calls, laws):
         says.append((crate, ghosts(text), False))
         if crate in programs:
             # a program hands nothing on, so what its functions promise each other is what it promises
-            says.append((crate, {word for found in re.findall(r"ensures[^{]*\{(.*?)\}\n", text, re.DOTALL) for word in WORD.findall(found)}, False))
+            clauses = re.findall(r"ensures[^{]*\{(.*?)\}\n", text, re.DOTALL)
+            says.append((crate, {word for clause in clauses for word in WORD.findall(clause)}, False))
     for crate, words, is_law in says:
         for word in words:
             for owner, file, name in names.get(crate, {}).get(word, ()):
@@ -211,8 +213,10 @@ def numbers_in(cell):
 
 
 def paragraphs(rules):
-    """The numbered paragraphs of the rules whose definition is to be found; section 19 is a table of the others' refusals."""
-    return [number for number in re.findall(r"^\*\*(\d+\.\d+)[ .*]", rules, re.MULTILINE) if not number.startswith("19.")]
+    """The numbered paragraphs of the rules whose definition is to be found; section 19 is a table of the others'
+    refusals."""
+    numbers = re.findall(r"^\*\*(\d+\.\d+)[ .*]", rules, re.MULTILINE)
+    return [number for number in numbers if not number.startswith("19.")]
 
 
 def untold(page, rules):
@@ -277,8 +281,9 @@ def self_test(page, texts, sources, calls, laws):
     assert any("more than 3" in one for one in found(most=3))
     assert any("fields/New is in no class" in one for one in found(
         {**texts, ("fields", "New"): "abbrev pub new : ℕ\nnew = 1\n"}))
-    assert any("table/Loop is in proofs and rules" in one for one in found(
-        page=page.replace("../crates/table/specs/Check.antt)", "../crates/table/specs/Check.antt), [b](../crates/table/specs/Loop.antt)")))
+    link, other = "../crates/table/specs/Check.antt)", "../crates/table/specs/Loop.antt)"
+    twice = found(page=page.replace(link, "%s, [b](%s" % (link, other)))
+    assert any("table/Loop is in proofs and rules" in one for one in twice)
     assert any("is not there" in one for one in found({key: text for key, text in texts.items() if key != loop}))
 
 
@@ -296,7 +301,8 @@ def main():
         sys.exit("definition: %d faults\n%s" % (len(found), "\n".join(found)))
     self_test(page, texts, sources, calls, laws)
     assert untold(page, rules + "\n**4.99 More.** ..\n**99.1** ..\n") == ["rule 99.1 is in no row"]
-    assert untold(page.replace("| 6 | names", "| 6.1 | names"), rules) == ["rule 6.%d is in no row" % part for part in (2, 3, 5)]
+    fewer = page.replace("| 6 | names", "| 6.1 | names")
+    assert untold(fewer, rules) == ["rule 6.%d is in no row" % part for part in (2, 3, 5)]
     print("definition: %d lines of rules to believe, of at most %d; apart %s" % (
         counts["rules"], MOST, ", ".join("%d of %s" % (counts[kind], kind) for kind in CLASSES if kind != "rules")))
 

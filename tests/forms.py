@@ -18,7 +18,8 @@ def source(path):
 
 
 def item(text, head):
-    """The function or type whose head is told, to the brace that ends it, without its comments; empty where there is none."""
+    """The function or type whose head is told, to the brace that ends it, without its comments; empty where there is
+    none."""
     start = re.search(head, text)
     if not start:
         return ""
@@ -44,36 +45,59 @@ def layers(text):
 
 # what the page says, the file, the head of the function or type, and what has to stand in it, one behind the other
 FORMS = [
-    ("a record number is a tuple struct over u64", "crates/fields/src/lib.rt", r"pub struct RecordNumber\(pub u64\);", None),
+    (
+        "a record number is a tuple struct over u64", "crates/fields/src/lib.rt",
+        r"pub struct RecordNumber\(pub u64\);", None),
     ("a VCN is a tuple struct over u64", "crates/fields/src/lib.rt", r"pub struct Vcn\(pub u64\);", None),
-    ("an entry names both", "crates/list/src/lib.rt", r"pub struct Entry \{", [r"lowest: Vcn,", r"file: RecordNumber,"]),
+    (
+        "an entry names both", "crates/list/src/lib.rt", r"pub struct Entry \{",
+        [r"lowest: Vcn,", r"file: RecordNumber,"]),
     ("a part names both", "crates/parts/src/lib.rt", r"pub struct Part \{", [r"file: RecordNumber,", r"lowest: Vcn,"]),
     ("an entry loop inside the raw loop, left by label", "crates/items/src/walk.rt", r"fn next_inside\(",
-     [r"'raw: loop \{", r"'entries: while let Some\(\w+\) = at\.list \{", r"list::header\(", r"break 'raw Err\(", r"continue 'entries;",
+     [
+         r"'raw: loop \{", r"'entries: while let Some\(\w+\) = at\.list \{", r"list::header\(", r"break 'raw Err\(",
+         r"continue 'entries;",
       r"break 'raw Ok\(Some\(Item \{", r"self\.base\.step\(at\.raw\)", r"Ok\(None\) => break 'raw Ok\(None\)"]),
     ("the list step is handed the rest of the list", "crates/list/src/lib.rt", r"pub fn header\(rest: &\[u8\],",
      [r"entry_of rest\.now ", r"let left = rest\.len\(\);"]),
-    ("the walk hands it", "crates/items/src/walk.rt", r"fn next_inside\(", [r"&self\.base\.bytes\[list\.from\.\.list\.to\]", r"list::header\(rest,"]),
-    ("the parts hand it", "crates/parts/src/lib.rt", r"fn fill_inside\(", [r"&file\.base\.bytes\[at\.from\.\.at\.to\]", r"list::header\(rest,"]),
+    (
+        "the walk hands it", "crates/items/src/walk.rt", r"fn next_inside\(",
+        [r"&self\.base\.bytes\[list\.from\.\.list\.to\]", r"list::header\(rest,"]),
+    (
+        "the parts hand it", "crates/parts/src/lib.rt", r"fn fill_inside\(",
+        [r"&file\.base\.bytes\[at\.from\.\.at\.to\]", r"list::header\(rest,"]),
     ("a lookup borrows a slice from one of two lent ones, its view stated", "crates/items/src/lib.rt",
      r"fn held\(&self, wanted: RecordNumber\) -> Option<&'a \[u8\]>",
-     [r"option_copied result ≡ of_file held_by self\.now wanted", r"if wanted == self\.base\.number", r"self\.base\.bytes", r"self\.table\.get\(wanted\)"]),
+     [
+         r"option_copied result ≡ of_file held_by self\.now wanted", r"if wanted == self\.base\.number",
+         r"self\.base\.bytes", r"self\.table\.get\(wanted\)"]),
     ("a name in 510 bytes", "crates/list/src/lib.rt", r"pub const MOST_NAME: usize = 510;", None),
     ("its first bytes are filled, the rest is proved zero", "crates/list/src/lib.rt", r"fn name_of\(",
      [r"result ≡ name_of rest\.now n", r"\[0; MOST_NAME\]", r"name\[0\.\.n\]\.copy_from_slice\("]),
     ("the rest is zeros", "crates/list/specs/Named.antt", r"\nname_of rest n = .*replicate \(most_name - n\) 0", None),
     ("FILE is a fixed byte string", "crates/record/src/lib.rt", r"const SIGNATURE: &\[u8; 4\] = b\"FILE\";", None),
-    ("a record's first bytes are compared with it", "crates/record/src/lib.rt", r"pub fn is_file\(", [r"starts_with\(SIGNATURE\)"]),
-    ("a reader is a record and a place", "crates/record/src/reader.rt", r"pub struct Reader<'a> \{", [r"within: Record<'a>,", r"at: usize,"]),
-    ("it takes by the raw step", "crates/record/src/reader.rt", r"pub fn take\(&mut self\)", [r"self\.within\.step\(self\.at\)"]),
+    (
+        "a record's first bytes are compared with it", "crates/record/src/lib.rt", r"pub fn is_file\(",
+        [r"starts_with\(SIGNATURE\)"]),
+    (
+        "a reader is a record and a place", "crates/record/src/reader.rt", r"pub struct Reader<'a> \{",
+        [r"within: Record<'a>,", r"at: usize,"]),
+    (
+        "it takes by the raw step", "crates/record/src/reader.rt", r"pub fn take\(&mut self\)",
+        [r"self\.within\.step\(self\.at\)"]),
     ("parts go one by one into a lent slice of structs", "crates/parts/src/lib.rt", r"fn fill_inside\(",
-     [r"list: &mut \[Part\]", r"filled list\.new result ≡ told_parts list\.old", r"list\[count\] = next;", r"count \+= 1;"]),
-    ("the tail is unchanged", "crates/parts/specs/Filled.antt", r"\nput xs k \(g ∷ gs\) = put \(slice_set xs k g\.part\) \(k \+ 1\) gs\n", None),
+     [
+         r"list: &mut \[Part\]", r"filled list\.new result ≡ told_parts list\.old", r"list\[count\] = next;",
+         r"count \+= 1;"]),
+    (
+        "the tail is unchanged", "crates/parts/specs/Filled.antt",
+        r"\nput xs k \(g ∷ gs\) = put \(slice_set xs k g\.part\) \(k \+ 1\) gs\n", None),
 ]
 
 # which crate must be proved from which: each layer through what the one below it promises
-ABOVE = [("list", "fields"), ("record", "fields"), ("items", "record"), ("items", "list"), ("items", "table"), ("parts", "items"),
-         ("lines", "parts"), ("listing", "lines")]
+ABOVE = [
+    ("list", "fields"), ("record", "fields"), ("items", "record"), ("items", "list"), ("items", "table"),
+    ("parts", "items"), ("lines", "parts"), ("listing", "lines")]
 
 
 def missing(read):

@@ -1,451 +1,447 @@
-"""Tests of ./list itself: every exit status, every message, and that standard output is the program's own, byte for byte,
-but for a line table NAME before each of several listings.
+"""Tests of ./list itself: that it hands on words, streams and statuses as they are, its own options, and what it
+builds when.
 
-Where another program than the built one is needed, or none, ./list is copied into a folder of its own with a program
-that stands in: ./list knows no other way to be told which program to run.
+What the program decides is tested in tests/nomutanku_*.py. Here it is asked by way of ./list and must answer the same;
+where another program or another `rt` is needed, in a small copy of the repository (tests/lib/trees.py).
 """
 import os
-import pty
 import re
 import shutil
-import socket
-import stat
-import subprocess
-import sys
-import tempfile
+import signal
 import threading
-import time
 
-import asking
-import listing_cases
-import listing_reading
+from lib import suite, trees
+from lib.programs import ROOT, command
+from lib.reading.listing import listing as listing_of
+from lib.running import CASES, case, headed, read
+from lib.running import kept as listing
+from lib.trees import LOG, PROGRAM, TOLD, Rooms, Tree, write
 
-ROOT = asking.ROOT
-CASES = os.path.join(ROOT, "tests", "cases")
 LIST = os.path.join(ROOT, "list")
 EXAMPLE = os.path.join(ROOT, "example", "springs.tab")
-LONG = 30
+NOBODY = 65534
 
-USAGE = (
-    "list: usage: ./list TABLE.. | ./list <TABLE | ./list --example | ./list --build | ./list --help\n"
-    "list:        a TABLE whose name begins with a dash goes behind --; - is standard input\n")
-STOPPED = "the walk was refused, for the reason in the last line\n"
-NO_TABLE = "no table of records with a base row\n"
-EMPTY = "the input is empty\n"
-A_FOLDER = "the input could not be read: Is a directory (os error 21); nothing is listed\n"
-
-
-def read(*path):
-    with open(os.path.join(*path), "rb") as given:
-        return given.read()
-
-
-def case(name):
-    return os.path.join(CASES, name + ".tab")
-
-
-def listing(name):
-    return read(CASES, name + ".txt")
+BUILDING = "list: proving and building nomutanku, which may take minutes. Crates proved, of 2:"
+BUILT = re.compile(re.escape(BUILDING) + r" 1 2, in \d+ seconds\n")
+ALL = ["low: lib", "nomutanku: run -- --version"]
+ALREADY = "list: %s is built already\n" % PROGRAM
+NO_RT = "list: %s is not built from these sources, and there is no rt to build it with\n" % PROGRAM
+NOT_BUILT = "list: nomutanku list --help has the options, once it is built: ./list --build\n"
 
 
 def run(*words, at=LIST, **given):
     """(status, standard output, standard error)."""
-    given.setdefault("stdin", subprocess.DEVNULL if "input" not in given else None)
-    if given["stdin"] is None:
-        del given["stdin"]
-    given.setdefault("stdout", subprocess.PIPE)
-    done = subprocess.run([at, *words], stderr=subprocess.PIPE, timeout=LONG, **given)
-    return done.returncode, done.stdout, done.stderr.decode()
+    return trees.run(*words, at=at, **given)
 
 
-def same(found, *expected):
-    """The test's one comparison."""
-    if found != expected:
-        sys.exit("./list: expected %r\n        found    %r" % (expected, found))
+def built(test, found, *expected):
+    """The same where a program is built first, and that is told in one line."""
+    status, out, said = found
+    line = BUILT.match(said)
+    assert line, said
+    test.same((status, out, said[line.end():]), *expected)
 
 
-def said_of(name, words):
-    """A line of ./list on standard error."""
-    return "list: %s: %s" % (name, words)
-
-
-def headed(*names):
-    """The listings of several cases, each behind a line with the file's name."""
-    return b"".join(b"table %s\n%s" % (case(name).encode(), listing(name)) for name in names)
+def told(*words):
+    """What the program that stands in prints of its words."""
+    return "".join(["told\n"] + ["<%s>\n" % word for word in words]).encode("utf-8", "surrogateescape")
 
 
 # With the program as built.
 
-def one_file():
-    for name in ("whole", "parts-2", "value-12", "parts-156"):
-        same(run(case(name)), 0, listing(name), "")
-    for name in ("stopped-13", "base-not-file", "stopped-18"):
-        same(run(case(name)), 1, listing(name), said_of(case(name), STOPPED))
-    for name in ("no-base-row", "length-65537"):
-        same(run(case(name)), 2, b"table refused 21\n", said_of(case(name), NO_TABLE))
-    same(run(case("empty")), 2, b"table refused 21\n", said_of(case("empty"), EMPTY))
+def test_a_difference_is_noticed(test):
+    """A comparison that never fails shows nothing."""
+    test.notices(run(case("whole")))
 
 
-def the_example():
-    """The bundled example is listed by its option alone."""
-    expected = listing_reading.listing(read(EXAMPLE))
-    assert b" value parts 3 size " in expected and expected.count(b"\npart ") == 3
-    assert b"".join(b"    " + line + b"\n" for line in expected.split(b"\n")[:-1]) in read(ROOT, "example", "README.md")
-    same(run("--example"), 0, expected, "")
-    same(run(EXAMPLE), 0, expected, "")
-    same(run("--example", input=read(case("stopped-3"))), 0, expected, "")
-    same(run("--example", case("whole")), 64, b"", "list: usage: ./list --example, and nothing else\n")
-
-
-def standard_input():
-    whole = read(case("whole"))
+def test_handed_on(test):
+    """./list answers as `nomutanku list` does: files, options, standard input, refusals, bad usage."""
+    program, *rest = command("nomutanku")
     closed = {"preexec_fn": lambda: os.close(0)}
-    # by its name, and where nothing is named
-    for words in ((), ("-",), ("--",), ("--", "-")):
-        same(run(*words, input=whole), 0, listing("whole"), "")
-        with open(case("parts-2"), "rb") as table:
-            same(run(*words, stdin=table), 0, listing("parts-2"), "")
-        same(run(*words, input=b""), 2, b"table refused 21\n", said_of("standard input", EMPTY))
-        with open(case("empty"), "rb") as table:
-            same(run(*words, stdin=table), 2, b"table refused 21\n", said_of("standard input", EMPTY))
-        same(run(*words, input=read(case("stopped-3"))), 1, listing("stopped-3"), said_of("standard input", STOPPED))
-    # what nobody chose for a table: no empty variable lists another one
-    for words in ((), ("--",)):
-        same(run(*words), 64, b"", USAGE)
-        same(run(*words, **closed), 64, b"", USAGE)
-        folder = os.open("/", os.O_RDONLY)
-        same(run(*words, stdin=folder), 64, b"", USAGE)
-        os.close(folder)
-        master, terminal = pty.openpty()
-        same(run(*words, stdin=terminal), 64, b"", USAGE)
-        os.close(master)
-        os.close(terminal)
-    # what is named is listed whatever it is, a closed one is not
-    same(run("-"), 2, b"table refused 21\n", said_of("standard input", EMPTY))
-    same(run("-", **closed), 3, b"", said_of("standard input", "it is closed\n"))
-    folder = os.open("/", os.O_RDONLY)
-    same(run("-", stdin=folder), 3, b"", said_of("standard input", A_FOLDER))
-    os.close(folder)
-    # a file is listed whether or not there is a standard input
-    same(run(case("whole"), **closed), 0, listing("whole"), "")
-
-
-def several():
-    stopped, empty = said_of(case("stopped-13"), STOPPED), said_of(case("empty"), EMPTY)
-    same(run(*map(case, ("whole", "stopped-13", "parts-2", "empty"))), 2, headed("whole", "stopped-13", "parts-2", "empty"), stopped + empty)
-    same(run(case("whole"), case("parts-2")), 0, headed("whole", "parts-2"), "")
-    # the worst, not the last
-    same(run(case("stopped-13"), case("whole")), 1, headed("stopped-13", "whole"), stopped)
-    same(run(case("empty"), case("stopped-13")), 2, headed("empty", "stopped-13"), empty + stopped)
-    gone = case("no such")
-    same(run(gone, "--", case("no-base-row")), 3, headed("no-base-row"), said_of(gone, "no such file\n") + said_of(case("no-base-row"), NO_TABLE))
-    same(run(case("whole"), "-", input=read(case("parts-2"))), 0, headed("whole") + b"table -\n" + listing("parts-2"), "")
+    for words, given in (
+        ([case("whole")], {}), ([case("stopped-13")], {}), ([case("empty")], {}), ([case("no-base-row")], {}),
+        ([case("no such")], {}), ([case("whole"), case("stopped-13"), case("no such")], {}),
+        (["--base", "41", case("parts-2")], {}), (["-"], {"input": read(case("parts-2"))}),
+        ([], {"input": read(case("whole"))}), (["--"], {"input": read(case("stopped-3"))}), ([], {}), ([], closed),
+        (["-"], closed), ([case("whole")], closed), ([""], {}), (["--halp"], {}), (["-x", case("whole")], {}),
+        ([case("whole"), "--help"], {}), ([case("whole"), "--example"], {}), ([case("whole"), "--build"], {}),
+        (["--", "--example"], {}), (["--", "--build"], {}), (["--", "--help"], {}), (["/"], {}),
+    ):
+        test.same(run(*words, **given), *run(*rest, "list", *words, at=program, **given))
+    # literal answers
+    test.same(run(case("parts-156")), 0, listing("parts-156"), "")
+    test.same(run("-", input=read(case("stopped-13")))[:2], 1, listing("stopped-13"))
+    test.same(run(case("empty"))[:2], 2, b"table refused 21\n")
+    test.same(run(case("no such"))[:2], 3, b"")
+    test.same(run("--halp")[:2], 64, b"")
+    # the worst status, not the last
+    for names, status in ((("whole", "parts-2"), 0), (("stopped-13", "whole"), 1), (("empty", "stopped-13"), 2)):
+        expected = b"".join(b"table %s\n%s" % (case(name).encode(), listing(name)) for name in names)
+        test.same(run(*map(case, names))[:2], status, expected)
     # the second has nothing left to read
-    same(run("-", "-", input=read(case("parts-2"))), 2, b"table -\n" + listing("parts-2") + b"table -\ntable refused 21\n",
-         said_of("standard input", EMPTY))
+    expected = b"table -\n" + listing("parts-2") + b"table -\ntable refused 21\n"
+    test.same(run("-", "-", input=read(case("parts-2")))[:2], 2, expected)
 
 
-# Names, and how they are shown.
-FORGED = (
-    ("a\ntable b", "a\\x0atable b"),
-    ("\n", "\\x0a"),
-    ("end reads 2\n", "end reads 2\\x0a"),
-    ("back\\slash", "back\\\\slash"),
-    ("\\x0a", "\\\\x0a"),
-    ("\x01\t\x1f\x7f\x1b[2J\r", "\\x01\\x09\\x1f\\x7f\\x1b[2J\\x0d"),
-    ("ü %s%d *", "ü %s%d *"),
-)
+def test_the_example(test):
+    """The bundled example is listed by its option alone."""
+    expected = listing_of(read(EXAMPLE))
+    assert b" value parts 3 size " in expected and expected.count(b"\npart ") == 3
+    for page in ("README.md", os.path.join("example", "README.md")):
+        assert b"".join(b"    " + line + b"\n" for line in expected.split(b"\n")[:-1]) in read(ROOT, page), page
+    test.same(run("--example"), 0, expected, "")
+    test.same(run(EXAMPLE), 0, expected, "")
+    test.same(run("--example", input=read(case("stopped-3"))), 0, expected, "")
+    test.same(run("--example", cwd="/"), 0, expected, "")
+    test.same(run("--example", case("whole")), 64, b"", "list: usage: ./list --example, and nothing else\n")
 
 
-def names_that_forge(room):
-    """No name makes a line of its own, and two names are never shown alike."""
-    assert len({form for _, form in FORGED}) == len(FORGED)
-    for name, form in FORGED:
-        shutil.copy(case("whole"), os.path.join(room, name))
-        same(run("--", name, "gone", cwd=room), 3, b"table %s\n%s" % (form.encode(), listing("whole")), said_of("gone", "no such file\n"))
-        os.remove(os.path.join(room, name))
-        same(run("--", name, cwd=room), 3, b"", said_of(form, "no such file\n"))
-    # standard input's name is no file's
-    shutil.copy(case("whole"), os.path.join(room, "standard input"))
-    same(run("standard input", "./-", "-", cwd=room, input=b""), 3, b"table standard input\n%stable -\ntable refused 21\n" % listing("whole"),
-         said_of("./-", "no such file\n") + said_of("standard input", EMPTY))
-    # bytes that are no text
-    shutil.copy(case("whole"), os.path.join(os.fsencode(room), b"\xff\xfe"))
-    same(run(b"\xff\xfe", "gone", cwd=room), 3, b"table \xff\xfe\n" + listing("whole"), said_of("gone", "no such file\n"))
-
-
-def pour(text, path):
-    with open(path, "wb") as out:
-        out.write(text)
-
-
-def names_of_files(room):
-    """Spaces, dashes, quotes; a file that is not there, is a folder, or may not be read; other places to be called from."""
-    odd = ["with space.tab", " ", "-name", "--help", "--", "-", "*", "a\"b'c$HOME`d`\\e.tab", "ü.tab", "-e", "%s%d"]
-    for name in odd:
-        shutil.copy(case("whole"), os.path.join(room, name))
-    for name in odd:
-        same(run(os.path.join(room, name)), 0, listing("whole"), "")
-    for name in odd:
-        # a lone - stays standard input
-        if name not in ("-", "--"):
-            same(run("--", name, cwd=room), 0, listing("whole"), "")
-    same(run("--", "--", cwd=room), 0, listing("whole"), "")
-    same(run("./-", cwd=room), 0, listing("whole"), "")
-    same(run("with space.tab", "*", cwd=room), 0, b"table with space.tab\n%stable *\n%s" % (listing("whole"), listing("whole")), "")
-    same(run("", cwd=room), 3, b"", "list: : no such file\n")
-    os.mkdir(os.path.join(room, "folder"))
-    same(run("folder", cwd=room), 3, b"", said_of("folder", A_FOLDER))
-    os.symlink("nowhere", os.path.join(room, "broken"))
-    same(run("broken", cwd=room), 3, b"", said_of("broken", "no such file\n"))
-    # a socket may be read by its rights and cannot be opened
-    with socket.socket(socket.AF_UNIX) as door:
-        os.chdir(room)
-        door.bind("socket")
-        os.chdir(ROOT)
-    same(run(case("whole"), "socket", cwd=room), 3, headed("whole"), said_of("socket", "cannot be opened\n"))
-    # a pipe with a name is opened once
-    os.mkfifo(os.path.join(room, "pipe"))
-    writer = threading.Thread(target=pour, args=(read(case("parts-2")), os.path.join(room, "pipe")))
-    writer.start()
-    same(run("pipe", cwd=room), 0, listing("parts-2"), "")
-    writer.join(LONG)
-    closed = os.path.join(room, "closed.tab")
-    shutil.copy(case("whole"), closed)
-    os.chmod(closed, 0)
-    if os.geteuid() != 0:
-        same(run(closed), 3, b"", "list: %s: may not be read\n" % closed)
-    else:
-        # root may read all; nobody may not, but may have to be let in as far as the copy
-        tree = tree_with(room, "nobody", program="echo end reads 1\n")
-        for path, _, files in os.walk(tree):
-            os.chmod(path, 0o755)
-        os.chmod(room, 0o755)
-        same(run(closed, at=os.path.join(tree, "list"), cwd="/", user=65534), 3, b"", "list: %s: may not be read\n" % closed)
-        os.chmod(closed, 0o444)
-        same(run(closed, at=os.path.join(tree, "list"), cwd="/", user=65534), 0, b"end reads 1\n", "")
-    # called by another path: from elsewhere, relative, by a link, by sh
-    same(run("whole.tab", cwd=CASES), 0, listing("whole"), "")
-    same(run("tests/cases/whole.tab", at="./list", cwd=ROOT), 0, listing("whole"), "")
-    same(run("whole.tab", at="../../list", cwd=CASES), 0, listing("whole"), "")
-    os.symlink(LIST, os.path.join(room, "linked"))
-    same(run(case("whole"), at=os.path.join(room, "linked"), cwd="/"), 0, listing("whole"), "")
-    same(run("list", case("whole"), at="sh", cwd=ROOT), 0, listing("whole"), "")
-
-
-def options():
-    for words in (["--halp"], ["-x"], ["-h"], [case("whole"), "--list"], ["--build", "--x"], ["--example", "--x"],
-                  ["-", "-a"], ["-a\nb"]):
-        bad = next(word for word in words if word.startswith("-") and word not in ("-", "--build", "--example"))
-        same(run(*words), 64, b"", "list: what is %s?\n" % bad.replace("\n", "\\x0a") + USAGE)
-    for words in (["--build", case("whole")], [case("whole"), "--build"], ["--example", "--build"], ["--build", "--build"],
-                  ["--build", "--"]):
-        same(run(*words), 64, b"", "list: usage: ./list --build, and nothing else\n")
-    status, out, said = run("--help")
-    same((status, said), 0, "")
-    lines = out.decode().split("\n")[:-1]
-    assert 16 <= len(lines) <= 24 and max(map(len, lines)) <= 120, (len(lines), max(map(len, lines)))
-    for word in ("record NUMBER size M", "attr RECORD OFFSET TYPE LENGTH INSTANCE", "name OFFSET BYTES", "value resident OFFSET BYTES",
-                 "value runs OFFSET BYTES size S", "value parts K size S", "part RECORD OFFSET VCN RUNOFFSET RUNBYTES", "refused N",
-                 "end reads C", "stopped N reads C", "table refused 21", "table NAME", "\\x0a", "docs/REFERENCE.md", "--build", "--example"):
-        assert word in out.decode(), word
+def test_the_options(test):
+    """--build and --help."""
+    for words in (["--build", case("whole")], ["--build", "--x"], ["--build", "--build"], ["--build", "--"]):
+        test.same(run(*words), 64, b"", "list: usage: ./list --build, and nothing else\n")
+    test.same(run("--example", "--build"), 64, b"", "list: usage: ./list --example, and nothing else\n")
+    test.same(run("--build"), 0, b"", ALREADY)
+    program, *rest = command("nomutanku")
+    for word in ("--help", "-h"):
+        status, out, said = run(word)
+        test.same((status, said), 0, "")
+        own, end = out.decode().split("\n\n", 2)[:2]
+        for name in ("--example", "--build", "--help"):
+            assert "./list " + name in own, own
+        assert end.startswith("Exit status: ") and "69 not built" in end
+        assert out.endswith(b"\n\n" + run(*rest, "list", "--help", at=program)[1])
+        assert max(map(len, out.decode().split("\n"))) <= 120
     assert os.path.exists(os.path.join(ROOT, "docs", "REFERENCE.md"))
-    # help is given where a file is named too, and nothing is listed
-    same(run(case("whole"), "--help"), 0, out, "")
-    same(run("--build"), 0, b"", "list: crates/listing/out/listing is built already\n")
 
 
-def outputs():
-    """A listing that cannot be written is no success, and no further one is tried."""
-    full_disk = "the listing could not be written: No space left on device (os error 28)\n"
-    put_failed = "list: standard output could not be written: No space left on device\n"
+def test_outputs(test):
+    """What cannot be written is no success."""
     with open("/dev/full", "wb") as full:
-        same(run(case("parts-156"), stdout=full), 74, None, said_of(case("parts-156"), full_disk))
-        same(run("--example", stdout=full), 74, None, said_of(EXAMPLE, full_disk))
-        same(run("--help", stdout=full), 74, None, put_failed)
-        same(run(case("whole"), case("stopped-13"), stdout=full), 74, None, put_failed)
+        for words in ([case("parts-156")], ["--example"], [case("whole"), case("stopped-13")], ["--help"]):
+            status, _, said = run(*words, stdout=full)
+            test.same((status, "No space left on device" in said, said.count("\n")), 74, True, 1)
     # a pipe without a reader, for a caller that lets the signal end its programs and for one that does not
     for restored in (True, False):
         for words in ([case("parts-156")], [case("stopped-13"), case("whole")], ["--help"]):
             reader, writer = os.pipe()
             os.close(reader)
-            same(run(*words, stdout=writer, restore_signals=restored), 74, None, "")
+            status, _, said = run(*words, stdout=writer, restore_signals=restored)
+            test.same((status, said if words != ["--help"] or restored else ""), 74, "")
             os.close(writer)
-    closed = {"stdout": None, "preexec_fn": lambda: os.close(1)}
     for words in ([case("whole")], ["--example"], ["--help"]):
-        same(run(*words, **closed), 74, None, "list: standard output is closed\n")
+        status, _, said = run(*words, stdout=None, preexec_fn=lambda: os.close(1))
+        test.same((status, "Bad file descriptor" in said), 74, True)
 
 
-def output_ends_between(room):
-    """Where the first of two is written and the second cannot be, the status is 74; the first stands whole."""
-    tree = tree_with(room, "between", program="cat >/dev/null\n[ -e ../../once ] && exit 74\n: >../../once\necho end reads 1\n")
-    os.makedirs(os.path.join(tree, "here", "below"))
-    found = run(case("whole"), case("parts-2"), case("stopped-13"), at=os.path.join(tree, "list"), cwd=os.path.join(tree, "here", "below"))
-    same(found, 74, b"table %s\nend reads 1\ntable %s\n" % (case("whole").encode(), case("parts-2").encode()), "")
+def test_other_places(test):
+    """Called by another path: from elsewhere, relative, by a link, by sh. A file's name is the caller's."""
+    room = test.fresh()
+    test.same(run("whole.tab", cwd=CASES), 0, listing("whole"), "")
+    test.same(run("tests/cases/whole.tab", at="./list", cwd=ROOT), 0, listing("whole"), "")
+    test.same(run("whole.tab", at="../../list", cwd=CASES), 0, listing("whole"), "")
+    os.symlink(LIST, os.path.join(room, "linked"))
+    test.same(run(case("whole"), at=os.path.join(room, "linked"), cwd="/"), 0, listing("whole"), "")
+    for shell in ("sh", "dash", "bash"):
+        if shutil.which(shell):
+            test.same(run("list", case("whole"), at=shell, cwd=ROOT), 0, listing("whole"), "")
+    # a pipe with a name is opened once
+    os.mkfifo(os.path.join(room, "pipe"))
+    writer = threading.Thread(target=pour, args=(read(case("parts-2")), os.path.join(room, "pipe")))
+    writer.start()
+    test.same(run("pipe", cwd=room), 0, listing("parts-2"), "")
+    writer.join()
+    os.symlink("nowhere", os.path.join(room, "broken"))
+    test.same(run("broken", cwd=room), 3, b"", "broken: No such file or directory (os error 2)\n")
+    # standard input's name is no file's
+    for name in ("standard input", "-"):
+        shutil.copy(case("whole"), os.path.join(room, name))
+    test.same(run("standard input", "./-", "-", cwd=room, input=b"")[:2], 2,
+         b"table standard input\n%stable ./-\n%stable -\ntable refused 21\n" % (listing("whole"), listing("whole")))
 
 
-# With programs that stand in.
-
-def script(path, text):
-    os.makedirs(os.path.dirname(path), exist_ok=True)
-    with open(path, "w", encoding="ascii") as out:
-        out.write("#!/bin/sh\n" + text)
-    os.chmod(path, 0o755)
+def pour(text, path):
+    """Writes to a pipe."""
+    with open(path, "wb") as out:
+        out.write(text)
 
 
-def tree_with(room, name, program=None):
-    """A copy of ./list and its example in a folder of its own, with this program, or none."""
-    tree = os.path.join(room, name)
-    os.makedirs(tree)
-    os.makedirs(os.path.join(tree, "crates", "listing"))
-    os.makedirs(os.path.join(tree, "example"))
-    shutil.copy(LIST, tree)
-    shutil.copy(EXAMPLE, os.path.join(tree, "example"))
-    assert os.stat(os.path.join(tree, "list")).st_mode & stat.S_IXUSR
-    if program is not None:
-        script(os.path.join(tree, "crates", "listing", "out", "listing"), program)
-    return tree
+# With a program that stands in.
+
+def test_words_as_they_are(test):
+    """Each word comes to the program as it was given, byte for byte, and so does standard input."""
+    room = test.fresh()
+    tree = Tree(room, "words").build()
+    here = os.path.join(room, "here")
+    os.makedirs(here)
+    for name in ("with space", " ", "", "-name", "-", "--", "*", "a\"b'c$HOME`d`\\e", "ü", "a\nb", "%s%d",
+                 "\udcff\udcfe", "--json", "--base", "-e"):
+        test.same(tree.run("list", name, cwd=here), 0, told("list", name), "")
+        test.same(tree.run("list", "--", name, name, cwd=here), 0, told("list", "--", name, name), "")
+    test.same(tree.run("list"), 0, told("list"), "")
+    test.same(tree.run("list", "--example"), 0, told("list", tree.at("example/springs.tab")), "")
+    tree = Tree(room, "through", program="pwd\ncat\necho said >&2\n").build()
+    found = tree.run("list", "-", cwd=here, input=b"a\0b\xff\r\n")
+    test.same(found, 0, here.encode() + b"\na\0b\xff\r\n", "said\n")
+    assert tree.asked() == []
 
 
-def endings(room):
-    """Each status that a program ends with, and what it says; what it lists makes no difference."""
-    cut = "the program ended with status %d, and the listing is cut"
-    for k, (shown, said, ended, status, expected) in enumerate((
-            ("end reads 0\n", "", 0, 0, None),
-            ("stopped 17 reads 2\n", "", 0, 0, None),
-            ("end reads 0\n", "", 1, 1, STOPPED),
-            ("table refused 21\n", "", 2, 2, NO_TABLE),
-            ("table refused 21\n", "listing: the input is empty", 2, 2, EMPTY),
-            ("", "listing: out of memory; nothing is listed", 3, 3, "out of memory; nothing is listed\n"),
-            ("record 40 size 64\n", "listing: no room", 74, 74, "no room\n"),
-            ("record 40 size 64\n", "", 74, 74, None),
-            ("record 40 si", "", 4, 3, cut % 4 + "\n"),
-            ("", "loader: cannot", 127, 3, cut % 127 + ": loader: cannot\n"),
-            ("a\0b\xff\r\nend reads 1\n", "", 0, 0, None))):
-        program = "cat >/dev/null\nprintf '%s'\n%sexit %d\n" % (
-            "".join("\\%03o" % ord(c) for c in shown), "echo '%s' >&2\n" % said if said else "", ended)
-        tree = tree_with(room, "ending%d" % k, program=program)
-        same(run("x.tab", at=os.path.join(tree, "list"), cwd=CASES), 3, b"", said_of("x.tab", "no such file\n"))
-        same(run("whole.tab", at=os.path.join(tree, "list"), cwd=CASES), status, shown.encode("latin-1"),
-             said_of("whole.tab", expected) if expected else "")
-    # one that is ended by a signal
-    tree = tree_with(room, "killed", program="echo record 40 size 64\nkill -9 $$\n")
-    status, out, said = run("whole.tab", at=os.path.join(tree, "list"), cwd=CASES)
-    same((status, out, said.startswith(said_of("whole.tab", cut % 137))), 3, b"record 40 size 64\n", True)
-    # no variable of the user's names another program
-    tree = tree_with(room, "other", program="echo end reads 7\n")
-    names = {name: os.path.join(tree, "crates", "listing", "out", "listing") for name in ("program", "PROGRAM", "LISTING", "listing", "LIST_PROGRAM", "worst")}
-    names.update({name: tree for name in ("root", "here", "ROOT", "OLDPWD", "PWD", "CDPATH")})
-    same(run(case("whole"), env={**os.environ, **names}), 0, listing("whole"), "")
+def test_statuses_as_they_are(test):
+    """Each status of the program is that of ./list, and so is a signal that ends it."""
+    room = test.fresh()
+    for status in (0, 1, 2, 3, 4, 64, 69, 74, 126, 127, 255):
+        tree = Tree(room, "status%d" % status, program="echo end reads 0\nexit %d\n" % status)
+        # rt runs what it builds, so that one that fails is not built: here it is noted as if ./test had built it
+        stand_in(test, tree, "echo end reads 0\nexit %d\n" % status)
+        test.same(tree.run("list", "x"), status, b"end reads 0\n", "")
+    tree = Tree(room, "killed")
+    stand_in(test, tree, "echo record 40 size 64\nkill -9 $$\n")
+    test.same(tree.run("list", "x"), -signal.SIGKILL, b"record 40 size 64\n", "")
 
 
-def path_with(room, name, rt):
-    """An environment whose rt is this script."""
-    script(os.path.join(room, name, "rt"), rt)
-    return {**os.environ, "PATH": os.path.join(room, name) + ":" + os.environ["PATH"]}
+def noting(tree, text=""):
+    """Runs the functions that the scripts share."""
+    words = 'self=test; root=$PWD; . tools/built.sh; %s' % (text or 'note "$program" "$(sources_of nomutanku)"')
+    return run("-c", words, at="sh", cwd=tree.top, env=tree.env)
 
 
-def building(room):
-    """Builds where nothing is built, by rt run in crates/listing, says so, and lists then. No rt is asked where it is built."""
-    first = 'list: crates/listing/out/listing is not built yet; "rt run" in crates/listing proves and builds it, which takes some minutes\n'
-    good = (
-        'cmp - ../../example/springs.tab\necho table refused 21\necho "rt $* in $PWD" >&2\nmkdir -p out\n'
-        'printf "#!/bin/sh\\ncat >/dev/null\\necho end reads 5\\n" >out/listing\nchmod +x out/listing\n')
-    never = path_with(room, "never", "echo rt was asked >&2\nexit 1\n")
-    env = path_with(room, "good", good)
+def stand_in(test, tree, text):
+    """Puts a program there that is noted as built from the sources as they are."""
+    trees.script(tree.at(PROGRAM), text)
+    test.same(noting(tree), 0, b"", "")
 
-    def told(found, tree, status, out):
-        said = found[2].split("\n")
-        same((found[0], found[1], said[0] + "\n", said[1], said[2][:14], said[2][-8:], said[3:]),
-             status, out, first, "rt run in %s" % os.path.join(tree, "crates", "listing"), "list: built in", " seconds", [""])
 
-    # the table on standard input is the program's, not rt's
-    tree = tree_with(room, "new")
-    told(run("-", at=os.path.join(tree, "list"), env=env, cwd=CASES, input=read(case("whole"))), tree, 0, b"end reads 5\n")
-    same(run("whole.tab", at=os.path.join(tree, "list"), env=never, cwd=CASES), 0, b"end reads 5\n", "")
-    tree = tree_with(room, "ahead")
-    told(run("--build", at=os.path.join(tree, "list"), env=env, cwd=CASES), tree, 0, b"")
-    same(run("--build", at=os.path.join(tree, "list"), env=never), 0, b"", "list: crates/listing/out/listing is built already\n")
+def test_no_other_program(test):
+    """No variable of the user's names another program or another place."""
+    room = test.fresh()
+    tree = Tree(room, "other").build()
+    names = {name: tree.at(PROGRAM) for name in ("program", "PROGRAM", "LIST_PROGRAM", "NOMUTANKU", "archive", "log")}
+    folders = ("root", "here", "ROOT", "OLDPWD", "PWD", "CDPATH", "self", "asked", "status")
+    names.update({name: tree.top for name in folders})
+    test.same(run(case("whole"), env={**os.environ, **names}), 0, listing("whole"), "")
+
+
+def test_closed_to_others(test):
+    """A file that may not be read, for a user who is not root; that user may run what another one built."""
+    room = test.fresh()
+    tree = Tree(room, "nobody")
+    os.makedirs(os.path.dirname(tree.at(PROGRAM)))
+    shutil.copy(os.path.join(ROOT, PROGRAM), tree.at(PROGRAM))
+    test.same(noting(tree), 0, b"", "")
+    closed = os.path.join(room, "closed.tab")
+    shutil.copy(case("whole"), closed)
+    os.chmod(closed, 0)
+    user = {"user": NOBODY} if os.geteuid() == 0 else {}
+    for folder in (tree.top, tree.tools):
+        for path, _, _ in os.walk(folder):
+            os.chmod(path, 0o755)
+    test.same(tree.run("list", closed, cwd="/", **user), 3, b"", "%s: Permission denied (os error 13)\n" % closed)
+    os.chmod(closed, 0o444)
+    test.same(tree.run("list", closed, cwd="/", **user), 0, listing("whole"), "")
+
+
+def test_emulated(test):
+    """On another machine the program runs by the toolchain's emulator, which stands beside its guide."""
+    room = test.fresh()
+    rt = "[ $1 != doc ] || exec echo %s/kit/docs/START-HERE.md\n" % room + trees.RT
+    tree = Tree(room, "emulated", rt=rt).build()
+    trees.script(os.path.join(tree.tools, "uname"), "echo aarch64\n")
+    tools = os.path.join(room, "kit", "on", "aarch64", "toolchain")
+    trees.script(os.path.join(tools, "bin", "qemu-x86_64"), TOLD + "exit 1\n")
+    test.same(tree.run("list", "x y"), 1, told(
+        tools + "/lib/ld-linux-x86-64.so.2", "--library-path", tools + "/lib", tree.at(PROGRAM), "list", "x y"), "")
+    trees.script(os.path.join(tree.tools, "rt"), "case $1 in version) echo kit 1 ;; *) exit 1 ;; esac\n")
+    test.same(tree.run("list", "x"), 69, b"", "list: there is no rt, whose emulator this machine needs\n")
+
+
+# What is built when.
+
+def test_building(test):
+    """Builds where nothing is built, says so in one line, and runs then. Built sources are not built again."""
+    room = test.fresh()
+    tree = Tree(room, "new")
+    # standard input is the program's, not rt's; what rt says is in the log
+    built(test, tree.run("list", "-", input=b"x\n", cwd=CASES), 0, told("list", "-"), "")
+    assert tree.asked() == ALL
+    notes = read(tree.at(LOG))
+    for words in (b"notes of lib in low\n", b"notes of run -- --version in nomutanku\n", b"words on the other\n"):
+        assert words in notes, notes
+    assert b"x\n" not in notes
+    test.same(tree.run("list", "x"), 0, told("list", "x"), "")
+    test.same(tree.run("list", "--build"), 0, b"", ALREADY)
+    tree = Tree(room, "ahead")
+    built(test, tree.run("list", "--build", cwd=CASES), 0, b"", "")
+    test.same(tree.run("list", "--build"), 0, b"", ALREADY)
+    assert tree.asked() == ALL
     # the time is that of the build
-    tree = tree_with(room, "slow")
-    said = run("--build", at=os.path.join(tree, "list"), env=path_with(room, "slowly", "sleep 2\n" + good))[2]
-    took = re.fullmatch("list: built in ([0-9]+) seconds", said.split("\n")[2])
-    assert took and 2 <= int(took[1]) <= LONG, said
-    # a build that fails, that leaves nothing, and none at all
-    for name, rt, said in (("fails", "echo no >&2\nexit 1\n", "no\nlist: rt run in crates/listing failed\n"),
-                           ("empty", "exit 0\n", "list: rt run left no crates/listing/out/listing\n")):
-        tree = tree_with(room, name + "-tree")
-        for words in (["whole.tab"], ["--build"]):
-            same(run(*words, at=os.path.join(tree, "list"), env=path_with(room, name, rt), cwd=CASES), 69, b"", first + said)
-    tree = tree_with(room, "without")
-    tools = os.path.join(room, "tools")
-    os.mkdir(tools)
-    for tool in ("sh", "dirname", "readlink", "cat", "date", "uname", "od", "awk"):
-        os.symlink(shutil.which(tool), os.path.join(tools, tool))
-    same(run(case("whole"), at=os.path.join(tree, "list"), env={"PATH": tools}), 69, b"",
-         "list: crates/listing/out/listing is not built, and there is no rt to build it with\n")
-    # and with it built, these tools are all that ./list needs
-    script(os.path.join(tree, "crates", "listing", "out", "listing"), "cat\necho end reads 6\n")
-    same(run("-", at=os.path.join(tree, "list"), env={"PATH": tools}, input=b"x\n"), 0, b"x\nend reads 6\n", "")
+    said = Tree(room, "slow", rt=trees.RT + "sleep 1\n").run("list", "--build")[2]
+    assert BUILT.fullmatch(said) and int(said.split()[-2]) >= 2, said
+    # bad usage of its own options, and help, build nothing
+    tree = Tree(room, "unasked")
+    test.same(tree.run("list", "--build", "x"), 64, b"", "list: usage: ./list --build, and nothing else\n")
+    test.same(tree.run("list", "--example", "x"), 64, b"", "list: usage: ./list --example, and nothing else\n")
+    status, out, said = tree.run("list", "--help")
+    test.same((status, said), 0, NOT_BUILT)
+    assert out.startswith(b"./list TABLE..") and tree.asked() == []
+    # with it built the program's own help stands behind it
+    tree.build()
+    test.same(tree.run("list", "--help"), 0, out + b"\n" + told("list", "--help"), "")
+
+
+def test_other_sources(test):
+    """What was built from other sources or by another toolchain, or is another program, never runs."""
+    room = test.fresh()
+    tree = Tree(room, "sources").build()
+
+    def changed(what, change):
+        """Builds anew, once."""
+        change()
+        found = tree.run("list", "x")
+        assert BUILT.match(found[2]), (what, found)
+        built(test, found, 0, told("list", "x"), "")
+        assert tree.asked() == ALL, what
+        test.same(tree.run("list", "x"), 0, told("list", "x"), "")
+        assert tree.asked() == [], what
+
+    for path in ("crates/low/src/lib.rt", "crates/low/src/deep/er.rt", "crates/low/specs/Lib.antt",
+                 "crates/low/proofs/with space.antt", "crates/nomutanku/src/main.rt"):
+        changed(path, lambda: write(tree.at(path), "other\n"))
+    changed("a crate below", lambda: write(tree.at("crates.txt"), trees.CRATES + "\n"))
+    changed("a new file", lambda: write(tree.at("crates/low/src/new.rt"), "new\n"))
+    changed("a renamed file", lambda: os.rename(tree.at("crates/low/src/new.rt"), tree.at("crates/low/src/newer.rt")))
+    changed("a lost file", lambda: os.remove(tree.at("crates/low/src/newer.rt")))
+    changed("another program", lambda: trees.script(tree.at(PROGRAM), "echo end reads 5\n"))
+    changed("no program", lambda: os.remove(tree.at(PROGRAM)))
+    changed("no stamp", lambda: os.remove(tree.at(PROGRAM + ".from")))
+    changed("an empty stamp", lambda: write(tree.at(PROGRAM + ".from"), ""))
+    changed("half a stamp", lambda: write(tree.at(PROGRAM + ".from"), read(tree.at(PROGRAM + ".from")).decode()[:70]))
+    changed("another toolchain", lambda: tree.env.update(RT_VERSION="kit 2"))
+    # ./list --build says so too, and builds
+    write(tree.at("crates/low/src/lib.rt"), "yet other\n")
+    built(test, tree.run("list", "--build"), 0, b"", "")
+    assert tree.asked() == ALL
+
+
+def test_same_sources(test):
+    """What the program is not built from may change, and a copy elsewhere is built from the same sources."""
+    tree = Tree(test.fresh(), "sources").build()
+    for path in ("crates/low/must-fail/wrong.edit", "crates/above/src/main.rt", "crates/cabi/src/lib.rt", "README.md"):
+        write(tree.at(path), "other\n")
+        test.same(tree.run("list", "x"), 0, told("list", "x"), "")
+    assert tree.asked() == []
+    shutil.copytree(tree.top, tree.top + " copy")
+    test.same(tree.run("list", "x", at=tree.top + " copy/list"), 0, told("list", "x"), "")
+    assert tree.asked() == []
+
+
+def test_failing(test):
+    """A build that fails, leaves nothing, or whose sources change meanwhile: 69, with what to read; nothing runs."""
+    room = test.fresh()
+    log = "what it said is in %s\n" % LOG
+    for name, crate, words, said in (
+        ("lib", "low", "lib", 'list: "rt lib" in crates/low failed; ' + log),
+        ("run", "nomutanku", "run -- --version", 'list: "rt run -- --version" in crates/nomutanku failed; ' + log),
+    ):
+        rt = 'if [ "${PWD##*/} $*" = "%s %s" ]; then echo no, by this; exit 1; fi\n%s' % (crate, words, trees.RT)
+        tree = Tree(room, name + "-fails", rt=rt)
+        for asked in (["x"], ["--build"], ["--example"]):
+            before = " 1" if crate == "nomutanku" else ""
+            test.same(tree.run("list", *asked), 69, b"", BUILDING + before + "\n" + said)
+            assert b"no, by this\n" in read(tree.at(LOG))
+            assert not os.path.exists(tree.at(PROGRAM + ".from"))
+        # once it passes it is built
+        trees.script(os.path.join(tree.tools, "rt"), trees.RT)
+        built(test, tree.run("list", "x"), 0, told("list", "x"), "")
+    # what was there before a failed build is not run
+    tree = Tree(room, "stays").build()
+    write(tree.at("crates/low/src/lib.rt"), "wrong\n")
+    trees.script(os.path.join(tree.tools, "rt"), "case $1 in version) echo kit 1 ;; *) exit 1 ;; esac\n")
+    for _ in range(2):
+        test.same(tree.run("list", "x")[:2], 69, b"")
+    tree = Tree(room, "empty", rt="case $1 in version) echo kit 1 ;; esac\n")
+    status, out, said = tree.run("list", "x")
+    test.same((status, out, BUILT.sub("", said)), 69, b"", "list: rt left no %s; %s" % (PROGRAM, log))
+    tree = Tree(room, "changing", rt=trees.RT + "echo more >>../low/src/lib.rt\n")
+    status, out, said = tree.run("list", "x")
+    expected = "list: the sources changed while they were built: start again\n"
+    test.same((status, out, BUILT.sub("", said)), 69, b"", expected)
+    assert not os.path.exists(tree.at(PROGRAM + ".from"))
+    tree = Tree(room, "unwritable")
+    write(tree.at("crates/nomutanku/out"), "")
+    test.same(tree.run("list", "x"), 69, b"", "list: cannot write %s\n" % LOG)
+
+
+def test_no_rt(test):
+    """Without a toolchain what is built runs, from these sources alone; nothing else does."""
+    room = test.fresh()
+    tree = Tree(room, "without")
+    alone = tree.without_rt()
+    for words in (["x"], ["--build"], ["--example"]):
+        test.same(tree.run("list", *words, env=alone), 69, b"", NO_RT)
+    tree.build()
+    test.same(tree.run("list", "x", env=alone), 0, told("list", "x"), "")
+    test.same(tree.run("list", "--build", env=alone), 0, b"", ALREADY)
     # without readlink, from the folder above, where CDPATH knows another folder of that name
-    os.remove(os.path.join(tools, "readlink"))
+    os.remove(os.path.join(alone["PATH"], "readlink"))
     os.makedirs(os.path.join(room, "elsewhere", "without"))
-    same(run("-", at="without/list", cwd=room, env={"PATH": tools, "CDPATH": os.path.join(room, "elsewhere")}, input=b"x\n"), 0, b"x\nend reads 6\n", "")
-    # help needs nothing built
-    tree = tree_with(room, "helped")
-    same(run("--help", at=os.path.join(tree, "list"), env=never), *run("--help"))
+    misled = {**alone, "CDPATH": os.path.join(room, "elsewhere")}
+    test.same(run("x", at="without/list", cwd=room, env=misled), 0, told("list", "x"), "")
+    for path in ("crates/low/src/lib.rt", PROGRAM):
+        kept = read(tree.at(path)).decode()
+        write(tree.at(path), kept + "\n")
+        test.same(tree.run("list", "x", env=alone), 69, b"", NO_RT)
+        write(tree.at(path), kept)
+        test.same(tree.run("list", "x", env=alone), 0, told("list", "x"), "")
+    # a sum that cannot be made is none
+    os.remove(os.path.join(alone["PATH"], "sha256sum"))
+    test.same(tree.run("list", "x", env=alone)[:2], 69, b"")
 
 
-def checked_first(room):
-    """What is wrong with the arguments shows before anything is built."""
-    tree = tree_with(room, "checked")
-    env = path_with(room, "unasked", "echo rt was asked >&2\nexit 1\n")
+def test_after_the_gate(test):
+    """What ./test has proved and built runs without a build; where the sources changed meanwhile it is built anew."""
+    room = test.fresh()
+    gate = """case $1 in
+ci)
+    mkdir -p crates/nomutanku/out
+    printf '#!/bin/sh\\necho by the gate\\n' >crates/nomutanku/out/nomutanku
+    chmod +x crates/nomutanku/out/nomutanku
+    MEANWHILE
+    echo 7 passed, 0 failed
+    exit
+    ;;
+esac
+""" + trees.RT
+    for name, meanwhile, expected in (
+            ("gate", ":", b"by the gate\n"), ("gate-late", "echo more >>crates/low/src/lib.rt", None),
+            ("gate-fails", "exit 1", None)):
+        tree = Tree(room, name, rt=gate.replace("MEANWHILE", meanwhile))
+        trees.script(tree.at("tests/run"), "echo ran $1\n")
+        status, out, said = tree.run("test")
+        if name == "gate-fails":
+            test.same((status, out, said), 1, b"ran --sources\ntest: FAILED: rt ci\n", "")
+        else:
+            verdict = b"7 passed, 0 failed\n"
+            test.same((status, out, said), 0, b"ran --sources\n" + verdict + b"ran --programs\n" + verdict, "")
+        if expected:
+            test.same(tree.run("list", "x"), 0, expected, "")
+            assert tree.asked() == []
+        else:
+            # also where the sources are again what they were before
+            for path, text in trees.FILES.items():
+                write(tree.at(path), text)
+            built(test, tree.run("list", "x"), 0, told("list", "x"), "")
+            assert tree.asked() == ALL
 
-    def at(*words, **given):
-        return run(*words, at=os.path.join(tree, "list"), env=env, cwd=CASES, **given)
 
-    same(at(), 64, b"", USAGE)
-    same(at("-x", "whole.tab"), 64, b"", "list: what is -x?\n" + USAGE)
-    same(at("--build", "whole.tab"), 64, b"", "list: usage: ./list --build, and nothing else\n")
-    same(at("gone", "gone too"), 3, b"", said_of("gone", "no such file\n") + said_of("gone too", "no such file\n"))
-    same(at("-", preexec_fn=lambda: os.close(0)), 3, b"", said_of("standard input", "it is closed\n"))
-    same(at("whole.tab", stdout=None, preexec_fn=lambda: os.close(1)), 74, None, "list: standard output is closed\n")
+def made():
+    """What each test is handed. Where `rt run` alone built the program, ./list notes that once."""
+    command("nomutanku")
+    rooms = Rooms("./list")
+    rooms.same(run("--build")[:2], 0, b"")
+    return rooms
 
 
-def notices():
-    """A comparison that never fails shows nothing."""
-    right = run(case("whole"))
-    for wrong in ((1, *right[1:]), (0, right[1] + b"\n", right[2]), (0, right[1], "list: x\n")):
-        try:
-            same(right, *wrong)
-        except SystemExit:
-            continue
-        raise AssertionError("a difference is not noticed")
-
-
-def main():
-    started = time.time()
-    asking.command("listing")
-    notices()
-    one_file()
-    the_example()
-    standard_input()
-    several()
-    options()
-    outputs()
-    with tempfile.TemporaryDirectory() as room:
-        # as ./list sees it, without links
-        room = os.path.realpath(room)
-        output_ends_between(room)
-        endings(room)
-        building(room)
-        checked_first(room)
-        os.chmod(room, 0o755)
-        for name, test in (("names", names_of_files), ("forged", names_that_forge)):
-            os.mkdir(os.path.join(room, name))
-            test(os.path.join(room, name))
-    print("./list: every status and message, %.0f seconds" % (time.time() - started))
-
+main = suite.of(made, Rooms.finish)
 
 if __name__ == "__main__":
     main()

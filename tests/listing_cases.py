@@ -9,7 +9,7 @@ from typing import NamedTuple
 from lib import building
 from lib.building import END, entry, head, list_of, record, table
 from lib.damaging import damaged
-from lib.random_tables import chained_table, large_table, random_table
+from lib.random_tables import chained_table, hurt_outside, large_table, random_table
 
 BASE, OTHER, THIRD, FOURTH = 40, 41, 42, 43
 MOST = 65536
@@ -29,15 +29,14 @@ class Case(NamedTuple):
 
 # Real volumes whose tables stand in tests/cases; those of tests/volumes are listed too, and stay where they are.
 VOLUMES = (
-    "fragA-0064", "fragA-0084", "fragA-0142", "joinA-0064", "joinA-0072", "joinA-0115", "joinA-0173", "joinA-0181", "joinA-0193",
-    "joinA-0197", "linksA-0005", "linksA-0075", "linksA-0137", "plainA-0000", "plainA-0003", "plainA-0009", "plainA-0069",
-    "plainA-0072", "sparse4k-0067", "sparse4k-0072", "sparse4k-0078", "streamsA-0078", "streamsA-0093", "streamsA-0102",
-)
+    "fragA-0064", "fragA-0084", "fragA-0142", "joinA-0064", "joinA-0072", "joinA-0115", "joinA-0173", "joinA-0181",
+    "joinA-0193", "joinA-0197", "linksA-0005", "linksA-0075", "linksA-0137", "plainA-0000", "plainA-0003",
+    "plainA-0009", "plainA-0069", "plainA-0072", "sparse4k-0067", "sparse4k-0072", "sparse4k-0078", "streamsA-0078",
+    "streamsA-0093", "streamsA-0102",)
 OTHERS = (
-    "fragA-0066", "fragA-0180", "joinA-0069", "joinA-0131", "joinA-0151", "joinA-0188", "linksA-0064", "linksA-0116", "linksA-0135",
-    "plainA-0005", "sparse4k-0064", "sparse4k-0069", "sparse4k-0077", "streamsA-0067", "streamsA-0069", "streamsA-0073",
-    "streamsA-0082", "streamsA-0095",
-)
+    "fragA-0066", "fragA-0180", "joinA-0069", "joinA-0131", "joinA-0151", "joinA-0188", "linksA-0064", "linksA-0116",
+    "linksA-0135", "plainA-0005", "sparse4k-0064", "sparse4k-0069", "sparse4k-0077", "streamsA-0067", "streamsA-0069",
+    "streamsA-0073", "streamsA-0082", "streamsA-0095",)
 
 
 def stream(instance=1, length=64, runs=64, lowest=0, size=4000, ty=0x80, units=0, name=0):
@@ -98,22 +97,38 @@ def tables():
         text[k] = value
         return struct.pack("<5I", *text[:5]) + b"".join(struct.pack("<QI", *row) for row in text[5:]) + r + r
 
-    yield Case("good-64", changed(0, 2), "the smallest records; each table below has one fault more", "end reads 0", ("record 40 size 64",))
+    yield Case(
+        "good-64", changed(0, 2), "the smallest records; each table below has one fault more", "end reads 0",
+        ("record 40 size 64",))
     for name, k, value, about in (
-            ("directory-end", 2, 21, "directory end past the records offset"), ("records-end", 3, 173, "records offset past the table"),
-            ("base-above", 4, 3, "base row above count"), ("row-first", 5, (2 ** 48, 44), "a row's number at 2^48, and so above the next"),
-            ("row-equal", 6, (40, 108), "a row's number equal to the row before"), ("row-below", 6, (39, 108), "a row's number under the row before"),
-            ("row-2-48", 6, (2 ** 48, 108), "the last row's number at 2^48"), ("row-under", 5, (40, 43), "a record before the records offset"),
-            ("row-past", 6, (41, 109), "a record past the table's end by one"), ("no-base-row", 4, 2, "base row equal to count: none")):
+        ("directory-end", 2, 21, "directory end past the records offset"),
+        ("records-end", 3, 173, "records offset past the table"), ("base-above", 4, 3, "base row above count"),
+        ("row-first", 5, (2 ** 48, 44), "a row's number at 2^48, and so above the next"),
+        ("row-equal", 6, (40, 108), "a row's number equal to the row before"),
+        ("row-below", 6, (39, 108), "a row's number under the row before"),
+        ("row-2-48", 6, (2 ** 48, 108), "the last row's number at 2^48"),
+        ("row-under", 5, (40, 43), "a record before the records offset"),
+        ("row-past", 6, (41, 109), "a record past the table's end by one"),
+        ("no-base-row", 4, 2, "base row equal to count: none")):
         yield Case(name, changed(k, value), about, REFUSED)
-    yield Case("row-2-48-less-1", changed(6, (NUMBER_MOST, 108)), "the last row's number just under 2^48", "end reads 0", ("record 40 size 64",))
+    yield Case(
+        "row-2-48-less-1", changed(6, (NUMBER_MOST, 108)), "the last row's number just under 2^48", "end reads 0",
+        ("record 40 size 64",))
     yield Case("base-last", changed(4, 1), "the last row is the base", "end reads 0", ("record 41 size 64",))
-    # these have one fault alone: there is room for the record, and the row at 19 is whole, its first byte the base row's last
+
+
+def table_limits():
+    """The largest and the smallest of what a table tells."""
+    # these have one fault alone: there is room for the record, and the row at 19 is whole, its first byte the base
+    # row's last
     for size, about in ((56, "under 64"), (68, "no multiple of 8"), (4104, "over 4,096")):
-        yield Case("size-%d" % size, struct.pack("<5IQI", 1, size, 20, 32, 0, 40, 32) + record(4096).ljust(4104, b"\0"), "record size %s" % about, REFUSED)
+        yield Case(
+            "size-%d" % size, struct.pack("<5IQI", 1, size, 20, 32, 0, 40, 32) + record(4096).ljust(4104, b"\0"),
+            "record size %s" % about, REFUSED)
     for at, last in ((19, REFUSED), (20, "end reads 0")):
         text = struct.pack("<5I", 1, 64, at, 32, 0)[:at] + struct.pack("<QI", 256, 32)
-        yield Case("directory-%d" % at, text.ljust(32, b"\0") + r, "directory offset %d" % at, last)
+        yield Case(
+            "directory-%d" % at, text.ljust(32, b"\0") + record(64, first=56), "directory offset %d" % at, last)
     most = record(4096, FRONT, stream(2, 4000, 96, size=7))
     yield Case("size-4096", table({BASE: most}), "the largest records", "end reads 2", (
         "record 40 size 4096", "attr 40 80 128 4000 2 name 0 0 value runs 176 3904 size 7"))
@@ -121,8 +136,10 @@ def tables():
     for count, last in ((4096, "end reads 1"), (4097, REFUSED)):
         at = 20 + 12 * count
         rows = b"".join(struct.pack("<QI", 3 * n, at) for n in range(count))
-        yield Case("rows-%d" % count, struct.pack("<5I", count, 64, 20, at, count - 1) + rows + record(64, plain(7, 16), first=40),
-                   "%s rows, the last one the base" % format(count, ","), last)
+        yield Case(
+            "rows-%d" % count,
+            struct.pack("<5I", count, 64, 20, at, count - 1) + rows + record(64, plain(7, 16), first=40),
+            "%s rows, the last one the base" % format(count, ","), last)
     end = of(FRONT, size=4096)
     end = end.ljust(MOST, b"\0")
     yield Case("length-65536", end, "the longest input", "end reads 1", ("record 40 size 4096", FRONT_LINE))
@@ -134,77 +151,156 @@ def walks():
     yield Case("whole", WHOLE, "the whole case of the rules", "end reads 2", tuple(WHOLE_LISTING.split("\n")[:3]))
     yield Case("base-not-file", of(FRONT, magic=b"BAAD"), "the base record is not FILE", "stopped 2 reads 0", (HEADER,))
     yield Case("none", of(), "no attribute", "end reads 0", (HEADER,))
-    yield Case("first-past", of(FRONT, first=56)[:32 + 20] + b"\xFD\0" + of(FRONT)[32 + 22:], "3 bytes left at the first attribute offset",
-               "end reads 0", (HEADER,))
-    yield Case("first-0", of(FRONT)[:32 + 20] + b"\0\0" + of(FRONT)[32 + 22:], "the word FILE is taken for a type", "stopped 5 reads 0", (HEADER,))
+    yield Case(
+        "first-past", of(FRONT, first=56)[:32 + 20] + b"\xFD\0" + of(FRONT)[32 + 22:],
+        "3 bytes left at the first attribute offset", "end reads 0", (HEADER,))
+    yield Case(
+        "first-0", of(FRONT)[:32 + 20] + b"\0\0" + of(FRONT)[32 + 22:], "the word FILE is taken for a type",
+        "stopped 5 reads 0", (HEADER,))
     yield Case("used-size", of(FRONT, plain(1), used=60), "used size is not consulted", "end reads 2", (FRONT_LINE,))
-    listed = list_of(to())
-    # 24 for FRONT and 56 for the list: it stands at 80, its entry at 104, the next attribute at 136
-    lookup = (HEADER, FRONT_LINE)
-    yield Case("stopped-2-lookup", of(FRONT, listed, others=[record(256, stream(), magic=b"FILF")]), "2 in a record looked up", "stopped 2 reads 3", lookup)
+
+
+# 24 for FRONT and 56 for the list: it stands at 80, its entry at 104, the next attribute at 136
+LISTED = list_of(to())
+LOOKUP = (HEADER, FRONT_LINE)
+
+
+def walks_cut():
+    """2, 3, 4 and 5, in the base record and in one looked up."""
+    yield Case(
+        "stopped-2-lookup", of(FRONT, LISTED, others=[record(256, stream(), magic=b"FILF")]), "2 in a record looked up",
+        "stopped 2 reads 3", LOOKUP)
     # 64 bytes, one attribute of 16 at 44, 4 bytes left: type 16 and no room for a header
-    yield Case("stopped-3", of(plain(3, 16), first=44, size=64, end=b"\x10\0\0\0"), "4 bytes left, no marker", "stopped 3 reads 1",
-               ("record 40 size 64", "attr 40 44 16 16 3 name 0 0 value refused 7"))
+    yield Case(
+        "stopped-3", of(plain(3, 16), first=44, size=64, end=b"\x10\0\0\0"), "4 bytes left, no marker",
+        "stopped 3 reads 1", ("record 40 size 64", "attr 40 44 16 16 3 name 0 0 value refused 7"))
     yield Case("left-3", of(plain(3, 17), first=44, size=64, end=b""), "3 bytes left: the end", "end reads 1")
     for length, last in ((16, "end reads 1"), (17, "stopped 5 reads 0")):
-        yield Case("left-16-length-%d" % length, of(bare(0x10, length), first=48, size=64, end=b""), "16 bytes left, length %d" % length, last)
+        yield Case(
+            "left-16-length-%d" % length, of(bare(0x10, length), first=48, size=64, end=b""),
+            "16 bytes left, length %d" % length, last)
     fill = plain(0, 192, ty=0x30)
-    yield Case("stopped-3-lookup", of(FRONT, listed, others=[record(256, fill, end=b"\x80\0\0\0")]), "3 in a record looked up", "stopped 3 reads 4", lookup)
-    yield Case("stopped-4", of(FRONT, bare(0x10, 15)), "length 15", "stopped 4 reads 1", lookup)
-    yield Case("stopped-4-lookup", of(FRONT, listed, others=[[plain(), bare(0x80, 15, 1)]]), "4 in a record looked up", "stopped 4 reads 4", lookup)
-    yield Case("stopped-5", of(FRONT, bare(0x10, 177)), "length 177 with 176 bytes left", "stopped 5 reads 1", lookup)
-    yield Case("length-176", of(FRONT, bare(0x10, 176)), "length 176 with 176 bytes left", "end reads 2", lookup)
-    yield Case("stopped-5-lookup", of(FRONT, listed, others=[[bare(0x80, 201, 1)]]), "5 in a record looked up", "stopped 5 reads 3", lookup)
-    yield Case("stopped-6", of(FRONT, list_of(to(BASE, ty=0x88))), "an entry of unknown type, though it names the base record", "stopped 6 reads 3", lookup)
-    yield Case("stopped-6-lookup", of(FRONT, listed, others=[[plain(), plain(1, ty=0x81), stream()]]), "an attribute of unknown type before the one sought",
-               "stopped 6 reads 5", lookup)
+    yield Case(
+        "stopped-3-lookup", of(FRONT, LISTED, others=[record(256, fill, end=b"\x80\0\0\0")]), "3 in a record looked up",
+        "stopped 3 reads 4", LOOKUP)
+    yield Case("stopped-4", of(FRONT, bare(0x10, 15)), "length 15", "stopped 4 reads 1", LOOKUP)
+    yield Case(
+        "stopped-4-lookup", of(FRONT, LISTED, others=[[plain(), bare(0x80, 15, 1)]]), "4 in a record looked up",
+        "stopped 4 reads 4", LOOKUP)
+    yield Case("stopped-5", of(FRONT, bare(0x10, 177)), "length 177 with 176 bytes left", "stopped 5 reads 1", LOOKUP)
+    yield Case("length-176", of(FRONT, bare(0x10, 176)), "length 176 with 176 bytes left", "end reads 2", LOOKUP)
+    yield Case(
+        "stopped-5-lookup", of(FRONT, LISTED, others=[[bare(0x80, 201, 1)]]), "5 in a record looked up",
+        "stopped 5 reads 3", LOOKUP)
+
+
+def walks_to_unknown_types():
+    """6, and what is known and never found."""
+    yield Case(
+        "stopped-6", of(FRONT, list_of(to(BASE, ty=0x88))), "an entry of unknown type, though it names the base record",
+        "stopped 6 reads 3", LOOKUP)
+    yield Case(
+        "stopped-6-lookup", of(FRONT, LISTED, others=[[plain(), plain(1, ty=0x81), stream()]]),
+        "an attribute of unknown type before the one sought", "stopped 6 reads 5", LOOKUP)
     for ty in (0, 0x110):
-        yield Case("stopped-6-%d" % ty, of(FRONT, list_of(to(ty=ty)), others=[[stream(ty=ty)]]), "type %d is unknown" % ty, "stopped 6 reads 3", lookup)
-    yield Case("stopped-18-marker", of(FRONT, list_of(to(ty=0xFFFFFFFF)), others=[[plain(), END]]), "the marker's type is known, and never found",
-               "stopped 18 reads 4", lookup)
-    yield Case("stopped-7", of(FRONT, plain(9, 23, ty=0x20)), "a list of 23 bytes", "stopped 7 reads 2", lookup)
-    yield Case("stopped-7-runs", of(FRONT, stream(9, 63, ty=0x20)), "a non-resident list of 63 bytes: 7 before 13", "stopped 7 reads 2", lookup)
-    yield Case("stopped-10", of(FRONT, plain(9, 24, 0, 25, ty=0x20)), "a list's value offset past its length", "stopped 10 reads 2", lookup)
-    yield Case("stopped-11", of(FRONT, plain(9, 56, 33, 24, ty=0x20)), "a list's value end past its length", "stopped 11 reads 2", lookup)
-    yield Case("stopped-11-most", of(FRONT, plain(9, 56, 0xFFFFFFFF, 24, ty=0x20)), "the end above 2^32 - 1", "stopped 11 reads 2", lookup)
-    yield Case("stopped-13", of(FRONT, stream(9, ty=0x20)), "a list that is not resident", "stopped 13 reads 2", lookup)
-    yield Case("stopped-13-runs", of(FRONT, stream(9, 64, 65, ty=0x20)), "13 without 12: its runs offset is past its length", "stopped 13 reads 2", lookup)
-    yield Case("stopped-14", of(FRONT, list_of(to(BASE), to(BASE), cut=1)), "25 bytes left of a list", "stopped 14 reads 3", lookup)
-    yield Case("stopped-15", of(FRONT, list_of(to(BASE), to(length=27, units=1, name=b"n"))), "entry length 27 with one name unit",
-               "stopped 15 reads 3", lookup)
-    yield Case("stopped-16", of(FRONT, list_of(to(BASE), to(units=1), cut=2)), "an entry's name is cut", "stopped 16 reads 3", lookup)
-    yield Case("entry-longer", of(FRONT, list_of(to(length=40), cut=8), plain(2)), "an entry longer than what is left: the list ends", "end reads 3", (
-        *lookup, "attr 40 144 16 24 2 name 0 0 value resident 168 0"))
-    yield Case("stopped-17", of(FRONT, listed), "a record that the table lacks", "stopped 17 reads 3", lookup)
-    yield Case("stopped-18", of(FRONT, listed, others=[[plain(), stream(2), stream(1, ty=0x90)]]), "type and instance agree in no attribute",
-               "stopped 18 reads 6", lookup)
-    yield Case("list-empty", of(FRONT, list_of(), plain(2)), "an empty list", "end reads 3", lookup)
-    yield Case("list-two", of(list_of(to()), list_of(to(THIRD)), plain(2), others=[[stream()], [stream()]]),
-               "the skip key outlives a list: the second entry is passed over", "end reads 8",
-               ("attr 41 56 128 64 1 name 0 0 value parts 1 size 4000", "part 41 56 0 120 0", "attr 40 168 16 24 2 name 0 0 value resident 192 0"))
-    yield Case("list-key-cleared", of(list_of(to(), to(instance=2), to(THIRD)), others=[[stream(), plain(2, ty=0x80)], [stream()]]),
-               "a resident item between: the key is cleared, and the stream is an item again", "end reads 13",
-               ("attr 41 120 128 24 2 name 0 0 value resident 144 0", "attr 42 56 128 64 1 name 0 0 value parts 1 size 4000"))
+        yield Case(
+            "stopped-6-%d" % ty, of(FRONT, list_of(to(ty=ty)), others=[[stream(ty=ty)]]), "type %d is unknown" % ty,
+            "stopped 6 reads 3", LOOKUP)
+    yield Case(
+        "stopped-18-marker", of(FRONT, list_of(to(ty=0xFFFFFFFF)), others=[[plain(), END]]),
+        "the marker's type is known, and never found", "stopped 18 reads 4", LOOKUP)
+
+
+def walks_to_lists():
+    """A list that can't be opened."""
+    yield Case("stopped-7", of(FRONT, plain(9, 23, ty=0x20)), "a list of 23 bytes", "stopped 7 reads 2", LOOKUP)
+    yield Case(
+        "stopped-7-runs", of(FRONT, stream(9, 63, ty=0x20)), "a non-resident list of 63 bytes: 7 before 13",
+        "stopped 7 reads 2", LOOKUP)
+    yield Case(
+        "stopped-10", of(FRONT, plain(9, 24, 0, 25, ty=0x20)), "a list's value offset past its length",
+        "stopped 10 reads 2", LOOKUP)
+    yield Case(
+        "stopped-11", of(FRONT, plain(9, 56, 33, 24, ty=0x20)), "a list's value end past its length",
+        "stopped 11 reads 2", LOOKUP)
+    yield Case(
+        "stopped-11-most", of(FRONT, plain(9, 56, 0xFFFFFFFF, 24, ty=0x20)), "the end above 2^32 - 1",
+        "stopped 11 reads 2", LOOKUP)
+    yield Case("stopped-13", of(FRONT, stream(9, ty=0x20)), "a list that is not resident", "stopped 13 reads 2", LOOKUP)
+    yield Case(
+        "stopped-13-runs", of(FRONT, stream(9, 64, 65, ty=0x20)), "13 without 12: its runs offset is past its length",
+        "stopped 13 reads 2", LOOKUP)
+
+
+def walks_along_lists():
+    """A list's entries, and what they lead to."""
+    yield Case(
+        "stopped-14", of(FRONT, list_of(to(BASE), to(BASE), cut=1)), "25 bytes left of a list", "stopped 14 reads 3",
+        LOOKUP)
+    yield Case(
+        "stopped-15", of(FRONT, list_of(to(BASE), to(length=27, units=1, name=b"n"))),
+        "entry length 27 with one name unit", "stopped 15 reads 3", LOOKUP)
+    yield Case(
+        "stopped-16", of(FRONT, list_of(to(BASE), to(units=1), cut=2)), "an entry's name is cut", "stopped 16 reads 3",
+        LOOKUP)
+    yield Case(
+        "entry-longer", of(FRONT, list_of(to(length=40), cut=8), plain(2)),
+        "an entry longer than what is left: the list ends", "end reads 3",
+        (*LOOKUP, "attr 40 144 16 24 2 name 0 0 value resident 168 0"))
+    yield Case("stopped-17", of(FRONT, LISTED), "a record that the table lacks", "stopped 17 reads 3", LOOKUP)
+    yield Case(
+        "stopped-18", of(FRONT, LISTED, others=[[plain(), stream(2), stream(1, ty=0x90)]]),
+        "type and instance agree in no attribute", "stopped 18 reads 6", LOOKUP)
+    yield Case("list-empty", of(FRONT, list_of(), plain(2)), "an empty list", "end reads 3", LOOKUP)
+    yield Case(
+        "list-two", of(list_of(to()), list_of(to(THIRD)), plain(2), others=[[stream()], [stream()]]),
+        "the skip key outlives a list: the second entry is passed over", "end reads 8",
+        (
+            "attr 41 56 128 64 1 name 0 0 value parts 1 size 4000", "part 41 56 0 120 0",
+            "attr 40 168 16 24 2 name 0 0 value resident 192 0"))
+    yield Case(
+        "list-key-cleared",
+        of(list_of(to(), to(instance=2), to(THIRD)), others=[[stream(), plain(2, ty=0x80)], [stream()]]),
+        "a resident item between: the key is cleared, and the stream is an item again", "end reads 13",
+        ("attr 41 120 128 24 2 name 0 0 value resident 144 0", "attr 42 56 128 64 1 name 0 0 value parts 1 size 4000"))
+
+
+# an attribute behind others, which shows that the walk went on
+AFTER = plain(5)
+
+
+def one(name, attribute, about, ended, **more):
+    """A case of an attribute at 56 and one behind it."""
+    at = 56 + len(attribute)
+    a = struct.unpack_from("<IIBBHHH", attribute)
+    return Case(
+        name, of(attribute, AFTER, **more), about, "end reads 2",
+        (
+            HEADER, "attr 40 56 %d %d %d %s" % (a[0], a[1], a[6], ended),
+            "attr 40 %d 16 24 5 name 0 0 value resident %d 0" % (at, at + 24)))
+
+
+def names():
+    """Names; the walk goes on behind their refusals."""
+    yield one(
+        "name", plain(1, 32, 0, 32, units=4, name=24), "a name that ends with its attribute; an empty value there",
+        "name 80 8 value resident 88 0")
+    yield one("name-0", plain(1, units=255), "name offset 0: empty", "name 0 0 value resident 80 0")
+    yield one("name-units-0", plain(1, name=0xFFFF), "no name units: empty", "name 0 0 value resident 80 0")
+    yield one(
+        "name-8", plain(1, 32, units=1, name=32), "name offset at the length", "name refused 8 value resident 80 0")
+    yield one(
+        "name-9", plain(1, 32, units=5, name=24), "name end past the length", "name refused 9 value resident 80 0")
+    yield one(
+        "name-9-odd", plain(1, 32, units=1, name=31), "half of a name's unit is inside",
+        "name refused 9 value resident 80 0")
+    yield one(
+        "name-over", plain(1, 32, units=8, name=1), "a name over the attribute's own header",
+        "name 57 16 value resident 80 0")
 
 
 def values():
-    """Names and values; the walk goes on behind their refusals."""
-    after = plain(5)
-
-    def one(name, attribute, about, ended, **more):
-        """An attribute at 56 and one behind it."""
-        at = 56 + len(attribute)
-        a = struct.unpack_from("<IIBBHHH", attribute)
-        return Case(name, of(attribute, after, **more), about, "end reads 2", (
-            HEADER, "attr 40 56 %d %d %d %s" % (a[0], a[1], a[6], ended), "attr 40 %d 16 24 5 name 0 0 value resident %d 0" % (at, at + 24)))
-
-    yield one("name", plain(1, 32, 0, 32, units=4, name=24), "a name that ends with its attribute; an empty value there", "name 80 8 value resident 88 0")
-    yield one("name-0", plain(1, units=255), "name offset 0: empty", "name 0 0 value resident 80 0")
-    yield one("name-units-0", plain(1, name=0xFFFF), "no name units: empty", "name 0 0 value resident 80 0")
-    yield one("name-8", plain(1, 32, units=1, name=32), "name offset at the length", "name refused 8 value resident 80 0")
-    yield one("name-9", plain(1, 32, units=5, name=24), "name end past the length", "name refused 9 value resident 80 0")
-    yield one("name-9-odd", plain(1, 32, units=1, name=31), "half of a name's unit is inside", "name refused 9 value resident 80 0")
-    yield one("name-over", plain(1, 32, units=8, name=1), "a name over the attribute's own header", "name 57 16 value resident 80 0")
+    """Values; the walk goes on behind their refusals."""
     yield one("value-7-16", plain(1, 16), "16 bytes, resident", "name 0 0 value refused 7")
     yield one("value-7-23", plain(1, 23), "23 bytes, resident", "name 0 0 value refused 7")
     yield one("value-7-63", stream(1, 63), "63 bytes, non-resident", "name 0 0 value refused 7")
@@ -212,113 +308,199 @@ def values():
     yield one("value-at-end", plain(1, 32, 0, 32), "an empty value at the length", "name 0 0 value resident 88 0")
     yield one("value-11", plain(1, 32, 9, 24), "value end past the length", "name 0 0 value refused 11")
     yield one("value-11-most", plain(1, 32, 0xFFFFFFFF, 24), "value end above 2^32 - 1", "name 0 0 value refused 11")
-    yield one("value-over", plain(1, 32, 32, 0), "a value over the attribute's own header", "name 0 0 value resident 56 32")
+    yield one(
+        "value-over", plain(1, 32, 32, 0), "a value over the attribute's own header", "name 0 0 value resident 56 32")
     yield one("value-12", stream(1, 64, 65), "runs offset past the length", "name 0 0 value refused 12")
     yield one("value-runs-0", stream(1, 64, 64), "no runs", "name 0 0 value runs 120 0 size 4000")
     yield one("value-runs", stream(1, 72, 64, size=0), "runs of 8 bytes", "name 0 0 value runs 120 8 size 0")
-    yield one("both-refused", stream(1, 64, 0xFFFF, units=1, name=0xFFFF), "name and value refused", "name refused 8 value refused 12")
+    yield one(
+        "both-refused", stream(1, 64, 0xFFFF, units=1, name=0xFFFF), "name and value refused",
+        "name refused 8 value refused 12")
     yield one("type-unknown", plain(1, ty=0x11), "an item of unknown type", "name 0 0 value resident 80 0")
-    for number, attribute in ((7, plain(1, 16, ty=0x80)), (10, plain(1, 32, 0, 33, ty=0x80)), (11, plain(1, 32, 9, 24, ty=0x80))):
-        yield Case("value-%d-lookup" % number, of(list_of(to()), after, others=[[plain(), attribute]]), "%d in a record looked up" % number, "end reads 5", (
-            "attr 41 80 128 %d 1 name 0 0 value refused %d" % (len(attribute), number), "attr 40 112 16 24 5 name 0 0 value resident 136 0"))
+
+
+def looked_up():
+    """Names and values in a record looked up."""
+    for number, attribute in (
+        (7, plain(1, 16, ty=0x80)), (10, plain(1, 32, 0, 33, ty=0x80)), (11, plain(1, 32, 9, 24, ty=0x80))):
+        yield Case(
+            "value-%d-lookup" % number, of(list_of(to()), AFTER, others=[[plain(), attribute]]),
+            "%d in a record looked up" % number, "end reads 5",
+            (
+                "attr 41 80 128 %d 1 name 0 0 value refused %d" % (len(attribute), number),
+                "attr 40 112 16 24 5 name 0 0 value resident 136 0"))
     for number, name in ((8, 64), (9, 63)):
-        yield Case("name-%d-lookup" % number, of(list_of(to()), after, others=[[stream(units=1, name=name)]]), "%d in a record looked up" % number,
-                   "end reads 6", ("attr 41 56 128 64 1 name refused %d value parts 1 size 4000" % number, "part 41 56 0 120 0"))
+        yield Case(
+            "name-%d-lookup" % number, of(list_of(to()), AFTER, others=[[stream(units=1, name=name)]]),
+            "%d in a record looked up" % number, "end reads 6",
+            ("attr 41 56 128 64 1 name refused %d value parts 1 size 4000" % number, "part 41 56 0 120 0"))
+
+
+# the first part in 41, and the line of its item but for how it ends
+GOOD, LINE = "part 41 56 0 120 0", "attr 41 56 128 64 1 name 0 0 value parts "
+
+
+def refused(number, name, about, last, entries, *others, cut=0, first=stream(), count=1, more=()):
+    """A case of a first part in 41, or none, then one that refuses; where the walk goes on there is an attribute behind
+    the list."""
+    held = ["attr 41 56 128 %d 1 name 0 0 value parts %d refused %d" % (len(first), count, number)] + [GOOD] * count
+    return Case(
+        "parts-%d-refused-%s" % (count, name), of(list_of(*entries, cut=cut), AFTER, others=[[first], *others]), about,
+        last, (*held, *more))
 
 
 def parts():
     """The parts of a non-resident item found by an entry."""
-    good, line = "part 41 56 0 120 0", "attr 41 56 128 64 1 name 0 0 value parts "
+    yield Case(
+        "parts-1", of(list_of(to()), plain(5), others=[[stream()]]), "one part still has the parts form", "end reads 6",
+        (LINE + "1 size 4000", GOOD))
+    second = [plain(2, ty=0x80), stream(lowest=5, size=2)]
+    yield Case(
+        "parts-2", of(list_of(to(), to(THIRD), to(THIRD, 2)), others=[[stream(size=1)], second]),
+        "the size is the first part's; the third entry has another instance", "end reads 12",
+        (LINE + "2 size 1", GOOD, "part 42 80 5 144 0", "attr 42 56 128 24 2 name 0 0 value resident 80 0"))
+    yield Case(
+        "parts-type", of(list_of(to(), to(OTHER, ty=0x90)), others=[[stream(), stream(ty=0x90)]]),
+        "the instance agrees and the type is another known one", "end reads 12",
+        (LINE + "1 size 4000", GOOD, "attr 41 120 144 64 1 name 0 0 value parts 1 size 4000", "part 41 120 0 184 0"))
+    yield Case(
+        "parts-unknown", of(list_of(to(), to(THIRD, 2, ty=0x81)), others=[[stream()]]),
+        "an unknown type with another instance ends the parts; the walk stops", "stopped 6 reads 7",
+        (LINE + "1 size 4000", GOOD))
 
-    def refused(number, name, about, last, entries, *others, cut=0, first=stream(), count=1, more=()):
-        """A first part in 41, or none, then one that refuses; where the walk goes on there is an attribute behind the list."""
-        held = ["attr 41 56 128 %d 1 name 0 0 value parts %d refused %d" % (len(first), count, number)] + [good] * count
-        return Case("parts-%d-refused-%s" % (count, name), of(list_of(*entries, cut=cut), plain(5), others=[[first], *others]), about, last, (*held, *more))
 
-    yield Case("parts-1", of(list_of(to()), plain(5), others=[[stream()]]), "one part still has the parts form", "end reads 6", (line + "1 size 4000", good))
-    yield Case("parts-2", of(list_of(to(), to(THIRD), to(THIRD, 2)), others=[[stream(size=1)], [plain(2, ty=0x80), stream(lowest=5, size=2)]]),
-               "the size is the first part's; the third entry has another instance", "end reads 12",
-               (line + "2 size 1", good, "part 42 80 5 144 0", "attr 42 56 128 24 2 name 0 0 value resident 80 0"))
-    yield Case("parts-type", of(list_of(to(), to(OTHER, ty=0x90)), others=[[stream(), stream(ty=0x90)]]),
-               "the instance agrees and the type is another known one", "end reads 12",
-               (line + "1 size 4000", good, "attr 41 120 144 64 1 name 0 0 value parts 1 size 4000", "part 41 120 0 184 0"))
-    yield Case("parts-unknown", of(list_of(to(), to(THIRD, 2, ty=0x81)), others=[[stream()]]),
-               "an unknown type with another instance ends the parts; the walk stops", "stopped 6 reads 7", (line + "1 size 4000", good))
-    yield Case("parts-base", of(list_of(to(), to(BASE), to(THIRD)), stream(lowest=3), others=[[stream()], [stream(lowest=6)]]),
-               "an entry of the base record is passed over by the walk and counts as a part", "end reads 13",
-               (line + "3 size 4000", good, "part 40 160 3 224 0", "part 42 56 6 120 0", "attr 40 160 128 64 1 name 0 0 value runs 224 0 size 4000"))
-    yield Case("parts-stranger", of(list_of(to(), to(BASE, 3), to(THIRD)), others=[[stream()], [stream()]]),
-               "behind an entry of the base record that does not agree a further part is lost", "end reads 8", (line + "1 size 4000", good))
-    yield Case("parts-again", of(list_of(to(), to(OTHER, 2), to(THIRD)), others=[[stream(), stream(2)], [stream(lowest=4)]]),
-               "behind another item the stream is an item again", "end reads 17",
-               (line + "1 size 4000", good, "attr 41 120 128 64 2 name 0 0 value parts 1 size 4000", "part 41 120 0 184 0",
-                "attr 42 56 128 64 1 name 0 0 value parts 1 size 4000", "part 42 56 4 120 0"))
-    yield Case("parts-names", of(list_of(to(units=1), to(THIRD, units=2)), plain(5), others=[[stream()], [stream(lowest=4)]]),
-               "names are not compared", "end reads 9", (line + "2 size 4000", good, "part 42 56 4 120 0"))
-    yield Case("parts-entry-longer", of(list_of(to(), to(THIRD, length=64), cut=8), plain(5), others=[[stream()], [stream()]], size=512),
-               "an entry longer than what is left ends the parts and the list", "end reads 6", (line + "1 size 4000", good))
-    yield Case("parts-lowest", of(list_of(to(lowest=77)), others=[[stream(lowest=78)]]), "the VCN is the attribute's own, not the entry's", "end reads 5",
-               ("part 41 56 78 120 0",))
+def parts_behind():
+    """Which entries behind the first are parts."""
+    yield Case(
+        "parts-base", of(list_of(to(), to(BASE), to(THIRD)), stream(lowest=3), others=[[stream()], [stream(lowest=6)]]),
+        "an entry of the base record is passed over by the walk and counts as a part", "end reads 13",
+        (
+            LINE + "3 size 4000", GOOD, "part 40 160 3 224 0", "part 42 56 6 120 0",
+            "attr 40 160 128 64 1 name 0 0 value runs 224 0 size 4000"))
+    yield Case(
+        "parts-stranger", of(list_of(to(), to(BASE, 3), to(THIRD)), others=[[stream()], [stream()]]),
+        "behind an entry of the base record that does not agree a further part is lost", "end reads 8",
+        (LINE + "1 size 4000", GOOD))
+    yield Case(
+        "parts-again", of(list_of(to(), to(OTHER, 2), to(THIRD)), others=[[stream(), stream(2)], [stream(lowest=4)]]),
+        "behind another item the stream is an item again", "end reads 17",
+        (
+            LINE + "1 size 4000", GOOD, "attr 41 120 128 64 2 name 0 0 value parts 1 size 4000", "part 41 120 0 184 0",
+            "attr 42 56 128 64 1 name 0 0 value parts 1 size 4000", "part 42 56 4 120 0"))
+    yield Case(
+        "parts-names", of(list_of(to(units=1), to(THIRD, units=2)), plain(5), others=[[stream()], [stream(lowest=4)]]),
+        "names are not compared", "end reads 9", (LINE + "2 size 4000", GOOD, "part 42 56 4 120 0"))
+    yield Case(
+        "parts-entry-longer",
+        of(list_of(to(), to(THIRD, length=64), cut=8), plain(5), others=[[stream()], [stream()]], size=512),
+        "an entry longer than what is left ends the parts and the list", "end reads 6", (LINE + "1 size 4000", GOOD))
+    yield Case(
+        "parts-lowest", of(list_of(to(lowest=77)), others=[[stream(lowest=78)]]),
+        "the VCN is the attribute's own, not the entry's", "end reads 5", ("part 41 56 78 120 0",))
+
+
+# reads: the list 1, entry and attribute 2; parts: entry and attribute 2, then what is said below; then the list's other
+# entries are passed over, 1 each, and the attribute behind it is 1
+BEHIND = ("attr 40 136 16 24 5 name 0 0 value resident 160 0",)
+TWO = [to(), to(THIRD)]
+
+
+def parts_refused():
+    """Parts that are refused in the record that an entry leads to."""
     # nothing but 7 and 12 can refuse the first part: the walk has just looked it up and found it, non-resident
     yield refused(7, "7", "the item's own header is short", "end reads 6", [to()], first=stream(1, 63), count=0)
-    yield refused(12, "12", "the item's own runs offset is past its length", "end reads 6", [to()], first=stream(1, 64, 65), count=0)
-    # reads: the list 1, entry and attribute 2; parts: entry and attribute 2, then what is said below; then the list's other
-    # entries are passed over, 1 each, and the attribute behind it is 1
-    behind = ("attr 40 136 16 24 5 name 0 0 value resident 160 0",)
-    two = [to(), to(THIRD)]
-    yield refused(2, "2", "the second part's record is not FILE", "end reads 8", two, record(256, stream(), magic=b"file"), more=behind)
-    yield refused(3, "3", "3 in the second part's record", "end reads 9", two, record(256, plain(0, 192), end=b"\x80\0\0\0"), more=behind)
-    yield refused(4, "4", "4 in the second part's record", "end reads 8", two, [bare(0x80, 15, 1)], more=behind)
-    yield refused(5, "5", "5 in the second part's record", "end reads 8", two, [bare(0x80, 201, 1)], more=behind)
-    yield refused(6, "6-entry", "an agreeing instance with an unknown type; the walk stops there too", "stopped 6 reads 7",
-                  [to(), to(THIRD, ty=0x81)], [stream()])
-    yield refused(6, "6", "an attribute of unknown type in the second part's record", "end reads 9", two, [plain(ty=0x81), stream()], more=behind)
-    yield refused(7, "7", "the second part's header is short", "end reads 9", two, [stream(1, 63)], more=behind)
-    yield refused(12, "12", "the second part's runs offset is past its length", "end reads 9", two, [stream(1, 64, 65)], more=behind)
-    yield refused(14, "14", "25 bytes left of the list", "stopped 14 reads 5", two, [stream()], cut=1)
-    yield refused(15, "15", "entry length 27 with one name unit", "stopped 15 reads 5", [to(), to(THIRD, length=27, units=1, name=b"n")], [stream()])
-    yield refused(16, "16", "the second entry's name is cut", "stopped 16 reads 5", [to(), to(THIRD, units=1)], [stream()], cut=2)
-    yield refused(17, "17", "the table lacks the second part's record", "end reads 8", two, more=behind)
-    yield refused(18, "18", "the second part's record has no such attribute", "end reads 9", two, [stream(2)], more=behind)
-    yield refused(19, "19", "the second part is resident", "end reads 9", two, [plain(1, ty=0x80)], more=behind)
-    yield refused(19, "19-short", "19 before 7", "end reads 9", two, [plain(1, 16, ty=0x80)], more=behind)
-    yield refused(7, "7-before-12", "7 before 12", "end reads 9", two, [stream(1, 63, 0xFFFF)], more=behind)
-    yield refused(19, "19", "the third part is resident; the two before it are listed", "end reads 12", [to(), to(), to(THIRD)], [plain(1, ty=0x80)], count=2,
-                  more=("attr 40 160 16 24 5 name 0 0 value resident 184 0",))
-    yield refused(17, "17", "the table lacks the third part's record", "end reads 11", [to(), to(), to(FOURTH)], count=2)
+    yield refused(
+        12, "12", "the item's own runs offset is past its length", "end reads 6", [to()], first=stream(1, 64, 65),
+        count=0)
+    yield refused(
+        2, "2", "the second part's record is not FILE", "end reads 8", TWO, record(256, stream(), magic=b"file"),
+        more=BEHIND)
+    yield refused(
+        3, "3", "3 in the second part's record", "end reads 9", TWO, record(256, plain(0, 192), end=b"\x80\0\0\0"),
+        more=BEHIND)
+    yield refused(4, "4", "4 in the second part's record", "end reads 8", TWO, [bare(0x80, 15, 1)], more=BEHIND)
+    yield refused(5, "5", "5 in the second part's record", "end reads 8", TWO, [bare(0x80, 201, 1)], more=BEHIND)
+    yield refused(
+        6, "6-entry", "an agreeing instance with an unknown type; the walk stops there too", "stopped 6 reads 7",
+        [to(), to(THIRD, ty=0x81)], [stream()])
+    yield refused(
+        6, "6", "an attribute of unknown type in the second part's record", "end reads 9", TWO,
+        [plain(ty=0x81), stream()], more=BEHIND)
+    yield refused(7, "7", "the second part's header is short", "end reads 9", TWO, [stream(1, 63)], more=BEHIND)
+    yield refused(
+        12, "12", "the second part's runs offset is past its length", "end reads 9", TWO, [stream(1, 64, 65)],
+        more=BEHIND)
 
 
-def most():
-    """The most parts, the longest lines, the most records and the most reads."""
+def parts_refused_by_entries():
+    """Parts that are refused in the list, by what it leads to, or behind two."""
+    yield refused(14, "14", "25 bytes left of the list", "stopped 14 reads 5", TWO, [stream()], cut=1)
+    yield refused(
+        15, "15", "entry length 27 with one name unit", "stopped 15 reads 5",
+        [to(), to(THIRD, length=27, units=1, name=b"n")], [stream()])
+    yield refused(
+        16, "16", "the second entry's name is cut", "stopped 16 reads 5", [to(), to(THIRD, units=1)], [stream()], cut=2)
+    yield refused(17, "17", "the table lacks the second part's record", "end reads 8", TWO, more=BEHIND)
+    yield refused(
+        18, "18", "the second part's record has no such attribute", "end reads 9", TWO, [stream(2)], more=BEHIND)
+    yield refused(19, "19", "the second part is resident", "end reads 9", TWO, [plain(1, ty=0x80)], more=BEHIND)
+    yield refused(19, "19-short", "19 before 7", "end reads 9", TWO, [plain(1, 16, ty=0x80)], more=BEHIND)
+    yield refused(7, "7-before-12", "7 before 12", "end reads 9", TWO, [stream(1, 63, 0xFFFF)], more=BEHIND)
+    yield refused(
+        19, "19", "the third part is resident; the two before it are listed", "end reads 12", [to(), to(), to(THIRD)],
+        [plain(1, ty=0x80)], count=2, more=("attr 40 160 16 24 5 name 0 0 value resident 184 0",))
+    yield refused(
+        17, "17", "the table lacks the third part's record", "end reads 11", [to(), to(), to(FOURTH)], count=2)
+
+
+def most_parts():
+    """The most parts of an item, and the most items with a part."""
     # 80 + 154 × 26 = 4,084: as many entries as fit behind an ordinary header. Entries of 41 and of 42 in turn.
     entries = [to(OTHER + k % 2) for k in range(154)]
     others = [[stream(lowest=1)], [plain(), stream(lowest=2)]]
     # the list 1; the walk 1 + 1, and 153 passed over; 154 entries, 77 with one attribute and 77 with two
-    yield Case("parts-154", of(list_of(*entries), size=4096, others=others), "as many parts as fit behind an ordinary header", "end reads 541", (
-        "attr 41 56 128 64 1 name 0 0 value parts 154 size 4000", "part 41 56 1 120 0", "part 42 80 2 144 0"))
-    # The first attribute stands at 11, over the record's own header; bytes 20 and 21, its offset, fall on the list's name fields.
+    yield Case(
+        "parts-154", of(list_of(*entries), size=4096, others=others), "as many parts as fit behind an ordinary header",
+        "end reads 541",
+        ("attr 41 56 128 64 1 name 0 0 value parts 154 size 4000", "part 41 56 1 120 0", "part 42 80 2 144 0"))
+    # The first attribute stands at 11, over the record's own header; bytes 20 and 21, its offset, fall on the list's
+    # name fields.
     r = bytearray(record(4096))
     listed = struct.pack("<IIBBHHHIHH", 0x20, 4085, 0, 11, 0, 0, 9, 4056, 29, 0)
     r[11:11 + len(listed)] = listed
     r[20:22] = struct.pack("<H", 11)
     r[40:4096] = b"".join(to(OTHER + k % 2) for k in range(156))
     others = {OTHER + k: record(4096, *held) for k, held in enumerate(others)}
-    yield Case("parts-156", table({BASE: bytes(r), **others}), "as many parts as fit at all", "end reads 548", (
-        "record 40 size 4096", "attr 41 56 128 64 1 name 0 0 value parts 156 size 4000", "part 41 56 1 120 0", "part 42 80 2 144 0"))
-    # Instances in turn, so that each entry is an item with one part, which the next one ends: more text than goes to one write.
-    # The list 1; the walk's 154 entries, and as many parts, 77 each with one attribute and 77 with two; 153 that end parts.
+    yield Case(
+        "parts-156", table({BASE: bytes(r), **others}), "as many parts as fit at all", "end reads 548",
+        (
+            "record 40 size 4096", "attr 41 56 128 64 1 name 0 0 value parts 156 size 4000", "part 41 56 1 120 0",
+            "part 42 80 2 144 0"))
+    # Instances in turn, so that each entry is an item with one part, which the next one ends: more text than goes to
+    # one write. The list 1; the walk's 154 entries, and as many parts, 77 each with one attribute and 77 with two; 153
+    # that end parts.
     two = [[stream(1, lowest=FIELD_MOST, size=FIELD_MOST), stream(2, lowest=FIELD_MOST, size=FIELD_MOST)]]
-    yield Case("many-lines", of(list_of(*(to(instance=1 + k % 2) for k in range(154))), size=4096, others=two),
-               "a listing of more than 16,384 bytes", "end reads %d" % (1 + 2 * (154 + 77 * 3) + 153), (
-                   "attr 41 56 128 64 1 name 0 0 value parts 1 size 18446744073709551615", "part 41 56 18446744073709551615 120 0",
-                   "attr 41 120 128 64 2 name 0 0 value parts 1 size 18446744073709551615", "part 41 120 18446744073709551615 184 0"))
-    # Lengths of four digits, names of three, record numbers of fifteen, VCNs and sizes of twenty. The longest line of all has
-    # a name refused.
+    yield Case(
+        "many-lines", of(list_of(*(to(instance=1 + k % 2) for k in range(154))), size=4096, others=two),
+        "a listing of more than 16,384 bytes", "end reads %d" % (1 + 2 * (154 + 77 * 3) + 153),
+        (
+            "attr 41 56 128 64 1 name 0 0 value parts 1 size 18446744073709551615",
+            "part 41 56 18446744073709551615 120 0",
+            "attr 41 120 128 64 2 name 0 0 value parts 1 size 18446744073709551615",
+            "part 41 120 18446744073709551615 184 0"))
+
+
+def longest_lines():
+    """The longest lines."""
+    # Lengths of four digits, names of three, record numbers of fifteen, VCNs and sizes of twenty. The longest line of
+    # all has a name refused.
     long = {
-        NUMBER_MOST - 2: [bare(0x10, 1000), bytes(984), stream(65535, 1100, 100, FIELD_MOST, FIELD_MOST, 0xFFFFFFFE, 255, 590),
-                          stream(65535, 1100, 100, FIELD_MOST, FIELD_MOST, 0xFFFFFFFE, 255, 1100),
-                          list_of(to(NUMBER_MOST - 1, 65535, 0x100), to(NUMBER_MOST, 65535, 0x100))],
-        NUMBER_MOST - 1: [bare(0x10, 1000), bytes(984), stream(65535, 2100, 1000, FIELD_MOST, FIELD_MOST, 0x100, 255, 1590)],
+        NUMBER_MOST - 2: [
+            bare(0x10, 1000), bytes(984), stream(65535, 1100, 100, FIELD_MOST, FIELD_MOST, 0xFFFFFFFE, 255, 590),
+            stream(65535, 1100, 100, FIELD_MOST, FIELD_MOST, 0xFFFFFFFE, 255, 1100),
+            list_of(to(NUMBER_MOST - 1, 65535, 0x100), to(NUMBER_MOST, 65535, 0x100))],
+        NUMBER_MOST - 1: [
+            bare(0x10, 1000), bytes(984), stream(65535, 2100, 1000, FIELD_MOST, FIELD_MOST, 0x100, 255, 1590)],
         NUMBER_MOST: [bare(0x10, 1000), bytes(984), stream(65535, 2100, 1000, FIELD_MOST - 1, 5, 0x100, 255, 1590)],
     }
     # the base's four attributes; the walk's entry and two attributes; two parts of 3 reads; one entry passed over
@@ -330,33 +512,49 @@ def most():
         "attr 281474976710654 1056 256 2100 65535 name 2646 510 value parts 2 size 18446744073709551615",
         "part 281474976710654 1056 18446744073709551615 2056 1100",
         "part 281474976710655 1056 18446744073709551614 2056 1100"))
+
+
+def most_records():
+    """The most records of 1,024 bytes, and the longest searches."""
     # the list 1; the walk's entry and 57 attributes; 35 parts of the same; 34 entries passed over
     reads = 1 + 58 + 35 * 58 + 34
-    yield Case("records-64", records_64(), "64 records of 1,024 bytes, lying over each other's ends", "end reads %d" % reads, (
-        "record 0 size 1024", "attr 3 952 128 64 1 name 0 0 value parts 35 size 4000", "part 63 952 0 1016 0"))
+    yield Case(
+        "records-64", records_64(), "64 records of 1,024 bytes, lying over each other's ends", "end reads %d" % reads,
+        ("record 0 size 1024", "attr 3 952 128 64 1 name 0 0 value parts 35 size 4000", "part 63 952 0 1016 0"))
     # 248 attributes of 16 bytes in front of the one sought, and again in each part
     lot = record(4096, *[bare(0x10, 16)] * 248, stream())
-    yield Case("reads", table({BASE: record(4096, list_of(*[to()] * 154)), OTHER: lot}), "parts that are each found behind 248 attributes",
-               "end reads %d" % (1 + 1 + 249 + 154 * 250 + 153), ("attr 41 4024 128 64 1 name 0 0 value parts 154 size 4000",))
-    # As near as we came to the most that a listing can read (docs/RULES.md, 17.4): of 1,024 bytes 5,001 of 5,173. Each entry is
-    # an item of its own, found behind nearly all other attributes of its record, by the walk and again by its parts.
+    yield Case(
+        "reads", table({BASE: record(4096, list_of(*[to()] * 154)), OTHER: lot}),
+        "parts that are each found behind 248 attributes", "end reads %d" % (1 + 1 + 249 + 154 * 250 + 153),
+        ("attr 41 4024 128 64 1 name 0 0 value parts 154 size 4000",))
+
+
+def most_reads():
+    """The most reads."""
+    # As near as we came to the most that a listing can read (docs/RULES.md, 17.4): of 1,024 bytes 5,001 of 5,173. Each
+    # entry is an item of its own, found behind nearly all other attributes of its record, by the walk and again by its
+    # parts.
     for size, entries, spare, found in ((1024, 39, 4, 63), (4096, 157, 8, 255)):
-        # an attribute and an entry, two searches, and the entry again; every second search is one shorter but for the spare ones
+        # an attribute and an entry, two searches, and the entry again; every second search is one shorter but for the
+        # spare ones
         reads = entries * (3 + 2 * found) - 2 * (entries // 2 - spare)
-        yield Case("reads-%d" % size, reads_most(size, entries, spare), "the most reads that we found for this size", "end reads %d" % reads, (
-            "record 40 size %d" % size, "attr 26 %d 32 16 1 name 0 0 value parts 0 refused 7" % (size - 24),
-            "attr 27 %d 32 16 2 name 0 0 value parts 0 refused 7" % (size - 24),
-            "attr 26 %d 32 16 1 name 0 0 value parts 0 refused 7" % (size - 24),
-            "attr 26 %d 32 16 2 name 0 0 value parts 0 refused 7" % (size - 40)))
+        yield Case(
+            "reads-%d" % size, reads_most(size, entries, spare), "the most reads that we found for this size",
+            "end reads %d" % reads,
+            (
+                "record 40 size %d" % size, "attr 26 %d 32 16 1 name 0 0 value parts 0 refused 7" % (size - 24),
+                "attr 27 %d 32 16 2 name 0 0 value parts 0 refused 7" % (size - 24),
+                "attr 26 %d 32 16 1 name 0 0 value parts 0 refused 7" % (size - 24),
+                "attr 26 %d 32 16 2 name 0 0 value parts 0 refused 7" % (size - 40)))
 
 
 def reads_most(size, entries, spare):
     """A record of lists of one entry each, and the two records that they name.
 
-    A list lies over its own attribute from byte 0 on, so that its entry is the attribute: the entry's type is 0x20, its lowest
-    VCN the attribute's first fields, and its record number the value's length, 26, and offset, 0. An entry of 27 bytes names
-    record 27: so many are spare. Attributes are as short as they can be, so that the parts refuse the one found by 7,
-    behind the search. Entries of two instances in turn, or the skip key would pass over them.
+    A list lies over its own attribute from byte 0 on, so that its entry is the attribute: the entry's type is 0x20, its
+    lowest VCN the attribute's first fields, and its record number the value's length, 26, and offset, 0. An entry of 27
+    bytes names record 27: so many are spare. Attributes are as short as they can be, so that the parts refuse the one
+    found by 7, behind the search. Entries of two instances in turn, or the skip key would pass over them.
     """
     # the first attribute stands at 6, so that its instance is the first attribute offset
     text = bytearray(b"FILE\0\0")
@@ -375,16 +573,18 @@ def reads_most(size, entries, spare):
 
 
 def records_64():
-    """64 rows of 1,024 bytes each. 64 × 1,036 + 20 is past 65,536, so each record's last 16 bytes are the next one's first."""
+    """64 rows of 1,024 bytes each. 64 × 1,036 + 20 is past 65,536, so each record's last 16 bytes are the next one's
+    first."""
     size, step, count = 1024, 1008, 64
     at = 20 + 12 * count
     text = bytearray(struct.pack("<5I", count, size, 20, at, 0))
     text += b"".join(struct.pack("<QI", n, at + step * n) for n in range(count))
     text += bytes((count - 1) * step + size)
     for n in range(count):
-        # 56 attributes of 16 bytes, then the stream, which ends at 1,016; its last 8 bytes (initialized) are the next one's
-        # first: FILE is 4 of them, and what stands there is not listed
-        held = record(size, *[bare(0x10, 16)] * 56, stream(), end=b"") if n else record(size, list_of(*(to(3 + 60 * k // 34) for k in range(35))))
+        # 56 attributes of 16 bytes, then the stream, which ends at 1,016; its last 8 bytes (initialized) are the next
+        # one's first: FILE is 4 of them, and what stands there is not listed
+        held = record(size, *[bare(0x10, 16)] * 56, stream(), end=b"") if n else record(
+            size, list_of(*(to(3 + 60 * k // 34) for k in range(35))))
         text[at + step * n:at + step * n + size] = held
     return bytes(text)
 
@@ -399,14 +599,19 @@ def random_held(chance):
     instance, ty = chance.randrange(3), chance.choice(TYPES)
     length = chance.choice((16, 23, 24, 25, 32, 40, 62, 63, 64, 64, 65, 72, 80))
     units = chance.choice((0, 0, 1, 2, 4, 255))
-    name = chance.choice((0, 1, 16, 24, 64, length - 2 * units, length - 2 * units + 1, length - 1, length, length + 1, 0xFFFF)) % 65536
+    name = chance.choice(
+        (0, 1, 16, 24, 64, length - 2 * units, length - 2 * units + 1, length - 1, length, length + 1, 0xFFFF)) % 65536
     if chance.random() < 0.35:
         count = chance.choice((0, 1, 8, length, length - 24, length - 23, 2 ** 32 - 1)) % 2 ** 32
         value = chance.choice((24, 24, 24, 0, 16, length - 1, length, length + 1, 0xFFFF))
         return plain(instance, length, count, value, ty, units, name)
-    big = (0, 1, 9, 10, 4095, 2 ** 32, 10 ** 19, 10 ** 19 - 1, 2 ** 63, FIELD_MOST, chance.getrandbits(64), chance.getrandbits(chance.randrange(1, 64)))
+    big = (
+        0, 1, 9, 10, 4095, 2 ** 32, 10 ** 19, 10 ** 19 - 1, 2 ** 63, FIELD_MOST, chance.getrandbits(64),
+        chance.getrandbits(chance.randrange(1, 64)))
     runs = chance.choice((64, 64, 64, 64, 0, 33, length - 1, length, length + 1, 0xFFFF))
-    return stream(instance, length if chance.random() < 0.3 else max(length, 64), runs, chance.choice(big), chance.choice(big), ty, units, name)
+    return stream(
+        instance, length if chance.random() < 0.3 else max(length, 64), runs, chance.choice(big), chance.choice(big),
+        ty, units, name)
 
 
 def random_listed(chance):
@@ -427,7 +632,8 @@ def random_listed(chance):
                         key = chance.choice(TYPES), chance.randrange(3)
                     to_ = chance.choice(numbers) if chance.random() < 0.97 else numbers[-1] + 1
                     ty = key[0] if chance.random() < 0.98 else 0x81
-                    entries.append(to(to_, key[1], ty, units=chance.choice((0, 0, 0, 2)), lowest=chance.getrandbits(64)))
+                    entries.append(
+                        to(to_, key[1], ty, units=chance.choice((0, 0, 0, 2)), lowest=chance.getrandbits(64)))
                 text = list_of(*entries, cut=chance.choice((0, 0, 0, 0, 0, 0, 1, 2, 25, 26)))
             if len(text) > left:
                 break
@@ -456,17 +662,13 @@ def random_tables(count, real, chance):
         elif k % 5 == 0:
             text = large_table(chance)
         else:
-            # a table whose header or rows are hurt, or which is cut
-            text = bytearray(random_table(chance))
-            if chance.random() < 0.3:
-                text = text[:chance.randrange(len(text))]
-            else:
-                text[chance.randrange(44)] ^= 1 << chance.randrange(8)
+            text = hurt_outside(chance)
         yield bytes(text)
 
 
 # What a listing refuses, in its own words.
-REFUSALS = re.compile("table refused 21|stopped [0-9]+|name refused [0-9]+|value refused [0-9]+|value parts [0-9]+ refused [0-9]+")
+REFUSALS = re.compile(
+    "table refused 21|stopped [0-9]+|name refused [0-9]+|value refused [0-9]+|value parts [0-9]+ refused [0-9]+")
 
 
 def refusals(listing):
@@ -485,7 +687,14 @@ def missing(case, listing):
     return [line for line in case.has if line not in rest] + [case.last] * (lines[-1:] != [case.last])
 
 
+KINDS = (
+    tables, table_limits, walks, walks_cut, walks_to_unknown_types, walks_to_lists, walks_along_lists, names, values,
+    looked_up, parts, parts_behind, parts_refused, parts_refused_by_entries, most_parts, longest_lines, most_records,
+    most_reads,
+)
+
+
 def cases():
-    out = [case for kind in (tables, walks, values, parts, most) for case in kind()]
+    out = [case for kind in KINDS for case in kind()]
     assert len({case.name for case in out}) == len(out)
     return out

@@ -32,12 +32,14 @@ def text_of(*pattern):
 @functools.lru_cache(None)
 def defined(crate, folder, file="**/*"):
     """The names that the files of a crate's folder define for others."""
-    return set(re.findall(r"^\s*(?:\w+ )?pub (?:record |data )?(?!mod )([^\s:({]+)", text_of(crate, folder, file + ".antt"), re.MULTILINE))
+    text = text_of(crate, folder, file + ".antt")
+    return set(re.findall(r"^\s*(?:\w+ )?pub (?:record |data )?(?!mod )([^\s:({]+)", text, re.MULTILINE))
 
 
 @functools.lru_cache(None)
 def edits_of(crate):
-    return {os.path.splitext(os.path.basename(path))[0] for path in glob.glob(os.path.join(ROOT, "crates", crate, "must-fail", "*.edit"))}
+    paths = glob.glob(os.path.join(ROOT, "crates", crate, "must-fail", "*.edit"))
+    return {os.path.splitext(os.path.basename(path))[0] for path in paths}
 
 
 def defined_faults(named, cell, calls):
@@ -55,7 +57,8 @@ def defined_faults(named, cell, calls):
 def edit_faults(named, cell):
     """Which edits of a cell are not there. One of another crate is written with it: `crate/edit`."""
     edits = re.findall(r"`(?:(\w+)/)?(\w+)`", cell)
-    return ["%s: no edit %s" % (named[0], edit) for owner, edit in edits if edit not in edits_of(owner or named[0].split("::")[0])]
+    crate = named[0].split("::")[0]
+    return ["%s: no edit %s" % (named[0], edit) for owner, edit in edits if edit not in edits_of(owner or crate)]
 
 
 def call_faults(named, cells, calls):
@@ -69,7 +72,8 @@ def call_faults(named, cells, calls):
     found += ["%s: no law %s" % (named[0], law) for law in settled if law not in calls]
     if cells[4].startswith("("):
         return found
-    return found + edit_faults(named, cells[4]) + (["%s: under two edits" % named[0]] if cells[4].count("`") < 4 else [])
+    few = ["%s: under two edits" % named[0]] if cells[4].count("`") < 4 else []
+    return found + edit_faults(named, cells[4]) + few
 
 
 def law_faults(named, cells, calls):
@@ -135,7 +139,8 @@ def self_test(text, calls):
         page = text.replace(old + "\n", wrong + "\n" if wrong else "")
         assert any(what in fault for fault in faults(page, calls)), what
     assert reference_faults("### c\n| `T::f(&self)`, `g(x)` | what |\n", {"c::T::f", "c::g"}) == []
-    assert len(reference_faults("### c\n| `T::f(&self)` | what `g(x)` |\n### d\n| `g(x)` | what |\n", {"c::T::f", "c::g"})) == 1
+    page = "### c\n| `T::f(&self)` | what `g(x)` |\n### d\n| `g(x)` | what |\n"
+    assert len(reference_faults(page, {"c::T::f", "c::g"})) == 1
 
 
 def main():
@@ -149,7 +154,8 @@ def main():
     if found:
         sys.exit("promises: %d faults\n%s" % (len(found), "\n".join(found)))
     self_test(text, calls)
-    print("promises: a row for each of %d public calls and %d laws; definitions, laws and edits are there" % (len(calls) - len(laws), len(laws)))
+    print("promises: a row for each of %d public calls and %d laws; definitions, laws and edits are there"
+          % (len(calls) - len(laws), len(laws)))
 
 
 if __name__ == "__main__":

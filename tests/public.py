@@ -17,13 +17,15 @@ ROOT = os.path.dirname(os.path.dirname(os.path.abspath(__file__)))
 # the calls that ask something of their callers, and why no type carries it
 ASKS = dict.fromkeys(
     ("fields::bytes::u16_at", "fields::bytes::u32_at", "fields::bytes::u48_at", "fields::bytes::u64_at"),
-    "a number in bytes that are not there is no number, and a test in each of these would be made again for each field of a layout",
+    "a number in bytes that are not there is no number, and a test in each of these would be made again for each field "
+    "of a layout",
 ) | dict.fromkeys(
     ("text::put_byte", "text::put_words", "lines::put_line"),
     "the room in a lent buffer is the caller's to know: a line asks once for all that is put in it",
 )
 
-# Comments and literals are taken whole, so that no word in them counts; then labels and lifetimes, words, and single signs.
+# Comments and literals are taken whole, so that no word in them counts; then labels and lifetimes, words, and single
+# signs.
 TOKEN = re.compile(
     r"""//[^\n]*|/\*.*?\*/|b?"(?:\\.|[^"\\])*"|b?'(?:\\u\{\w*\}|\\.|[^'\\\n])'|'\w+|\w+|[^\w\s]""", re.DOTALL)
 
@@ -217,7 +219,8 @@ def load(path):
     for name, (public, inner) in module.modules.items():
         if inner is None:
             file = os.path.join(folder, name + ".rt")
-            module.modules[name] = (public, load(file if os.path.exists(file) else os.path.join(folder, name, "mod.rt")))
+            file = file if os.path.exists(file) else os.path.join(folder, name, "mod.rt")
+            module.modules[name] = (public, load(file))
     return module
 
 
@@ -309,7 +312,8 @@ def main():
     bad += ["%s is said to ask, and asks nothing" % name for name in sorted(set(ASKS) - asking)]
     if bad:
         sys.exit("public: %s" % "; ".join(bad))
-    print("public: %d public calls, %d of them ask something of their callers, each for a reason" % (len(calls), len(ASKS)))
+    print("public: %d public calls, %d of them ask something of their callers, each for a reason"
+          % (len(calls), len(ASKS)))
 
 
 if __name__ == "__main__":

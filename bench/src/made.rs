@@ -1,4 +1,5 @@
-//! Tables made for the measure: the same form in every record size, so that the cost of one read can be told as records grow.
+//! Tables made for the measure: the same form in every record size, so that the cost of one read can be told as
+//! records grow.
 
 const DATA: u8 = 0x80;
 
@@ -71,7 +72,8 @@ fn listing(size: usize, of: impl Fn(usize) -> Vec<u8>) -> Vec<u8> {
     filled(size, &[resident(0x20, 0, &list)])
 }
 
-/// A table of these records, numbered from 40 on; the first is the base. Rows past the last record have the last one's bytes.
+/// A table of these records, numbered from 40 on; the first is the base. Rows past the last record have the last one's
+/// bytes.
 fn table(size: usize, records: &[Vec<u8>], rows: usize) -> Vec<u8> {
     let start = 20 + 12 * rows;
     let mut t = [rows, size, 20, start, 0].iter().flat_map(|n| (*n as u32).to_le_bytes()).collect::<Vec<_>>();
@@ -88,7 +90,8 @@ pub fn raw(size: usize) -> Vec<u8> {
     table(size, &[full(size)], 1)
 }
 
-/// A list whose entries lead to the last attribute of full records, three of them in turn: a whole record is searched for each.
+/// A list whose entries lead to the last attribute of full records, three of them in turn: a whole record is searched
+/// for each.
 pub fn searched(size: usize) -> Vec<u8> {
     let last = (size - 56 - 4) / 24 - 1;
     let base = listing(size, |i| entry(41 + i % 3, last));

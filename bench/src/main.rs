@@ -2,8 +2,8 @@
 //!
 //!     bench [--once | --ours] VOLUMES      VOLUMES: a folder with tables of real volumes (*.tab)
 //!
-//! With --once each table is listed once by both, for an instruction counter; with --ours by ours alone, in 20,000 passes, for a profiler.
-//! Neither times anything.
+//! With --once each table is listed once by both, for an instruction counter; with --ours by ours alone, in 20,000
+//! passes, for a profiler. Neither times anything.
 mod made;
 mod ours;
 mod theirs;
@@ -18,7 +18,8 @@ use theirs::{Room, Volume};
 const ROUNDS: usize = 41;
 /// Bytes for a listing, more than any of these has.
 const ROOM: usize = 1 << 20;
-/// How long each turn of one table lasts, in nanoseconds: long enough for the clock, short enough that a turn is rarely disturbed.
+/// How long each turn of one table lasts, in nanoseconds: long enough for the clock, short enough that a turn is rarely
+/// disturbed.
 const TURN: f64 = 60_000.0;
 
 struct Case {
@@ -72,7 +73,11 @@ fn real(folder: &str, out: &mut [u8], room: &mut Room) -> Vec<Case> {
             Err(why) => *left.entry(why).or_insert(0) += 1,
         }
     }
-    println!("{} tables of real volumes; both list {} of them alike. Left out, by why: {left:?}\n", names.len(), cases.len());
+    println!(
+        "{} tables of real volumes; both list {} of them alike. Left out, by why: {left:?}\n",
+        names.len(),
+        cases.len()
+    );
     cases
 }
 
@@ -110,9 +115,18 @@ fn race(cases: &mut [Case], out: &mut [u8], room: &mut Room) -> Vec<Times> {
 fn pass(cases: &mut [Case], out: &mut [u8], room: &mut Room) -> Times {
     let mut all = [const { Vec::new() }; 3];
     for _ in 0..ROUNDS {
-        all[0].push(timed(1, || cases.iter().for_each(|c| { black_box(ours::list(black_box(&c.table), black_box(&mut *out))); })));
-        all[1].push(timed(1, || cases.iter_mut().for_each(|c| { theirs::list(&c.ntfs, black_box(&mut c.volume), room); black_box(room.out.told()); })));
-        all[2].push(timed(1, || cases.iter().for_each(|c| { theirs::list_table(black_box(&c.table), room); black_box(room.out.told()); })));
+        all[0].push(timed(1, || {
+            cases.iter().for_each(|c| { black_box(ours::list(black_box(&c.table), black_box(&mut *out))); })
+        }));
+        all[1].push(timed(1, || {
+            cases.iter_mut().for_each(|c| {
+                theirs::list(&c.ntfs, black_box(&mut c.volume), room);
+                black_box(room.out.told());
+            })
+        }));
+        all[2].push(timed(1, || {
+            cases.iter().for_each(|c| { theirs::list_table(black_box(&c.table), room); black_box(room.out.told()); })
+        }));
     }
     Times(all.map(middle))
 }
@@ -122,7 +136,10 @@ fn row(name: &str, reads: f64, Times([ours, rust, whole]): Times) {
 }
 
 fn heads(what: &str) {
-    println!("{what:16} {:>7} {:>10} {:>10} {:>10} {:>10} {:>10}", "reads", "ours ns", "Rust ns", "with table", "ours/Rust", "with table");
+    println!(
+        "{what:16} {:>7} {:>10} {:>10} {:>10} {:>10} {:>10}",
+        "reads", "ours ns", "Rust ns", "with table", "ours/Rust", "with table"
+    );
 }
 
 /// Each table, each volume, all of them, and all of them by passes.
@@ -147,13 +164,18 @@ fn report(cases: &[Case], times: &[Times], passed: Times) {
 
 /// What one read costs as records grow, then what a listing costs as rows do.
 fn report_made(out: &mut [u8], room: &mut Room) {
-    let kinds: [(&str, fn(usize) -> Vec<u8>); 3] = [("attributes", made::raw), ("searched", made::searched), ("parts", made::parts)];
+    let kinds: [(&str, fn(usize) -> Vec<u8>); 3] =
+        [("attributes", made::raw), ("searched", made::searched), ("parts", made::parts)];
     let sizes = [512, 1024, 2048, 4096];
     let mut cases = vec![];
     for (kind, make) in kinds {
-        cases.extend(sizes.map(|m| case(&format!("{kind} {m}"), make(m), out, room).map_err(|why| panic!("{kind} {m}: {why}")).unwrap()));
+        cases.extend(sizes.map(|m| {
+            case(&format!("{kind} {m}"), make(m), out, room).map_err(|why| panic!("{kind} {m}: {why}")).unwrap()
+        }));
     }
-    cases.extend([32, 256, 1024, 4000].map(|n| case(&format!("{n} rows"), made::rows(n), out, room).map_err(|why| panic!("{n} rows: {why}")).unwrap()));
+    cases.extend([32, 256, 1024, 4000].map(|n| {
+        case(&format!("{n} rows"), made::rows(n), out, room).map_err(|why| panic!("{n} rows: {why}")).unwrap()
+    }));
     let times = race(&mut cases, out, room);
     println!();
     heads("made");
@@ -187,7 +209,9 @@ fn main() {
         return counted(&mut cases, &mut out, &mut room);
     }
     if mode == "--ours" {
-        return (0..20_000).for_each(|_| cases.iter().for_each(|c| { black_box(ours::list(black_box(&c.table), &mut out)); }));
+        return (0..20_000).for_each(|_| {
+            cases.iter().for_each(|c| { black_box(ours::list(black_box(&c.table), &mut out)); })
+        });
     }
     let times = race(&mut cases, &mut out, &mut room);
     let passed = pass(&mut cases, &mut out, &mut room);

@@ -1,7 +1,7 @@
 //! The listing through the Rust crate: its public calls, and the oracle's probes for what it keeps to itself.
 //!
-//! It is made as cheap for the Rust as it can be: one buffer that is used again, no formatting machinery, each value asked for once, and
-//! no run decoded that the listing does not print.
+//! It is made as cheap for the Rust as it can be: one buffer that is used again, no formatting machinery, each value
+//! asked for once, and no run decoded that the listing does not print.
 use ntfs_relaxed::attribute_value::{NtfsAttributeListNonResidentAttributeValue, NtfsAttributeValue, LENIENT};
 use ntfs_relaxed::{probe_attribute as probe, probe_ntfs, Ntfs, NtfsAttribute, NtfsError, Result};
 use std::collections::BTreeMap;
@@ -25,7 +25,8 @@ fn number(t: &[u8], at: usize, bytes: usize) -> u64 {
     t[at..at + bytes].iter().rev().fold(0, |n, b| n << 8 | *b as u64)
 }
 
-/// The crate reads the MFT's own record before each other one, to find where that one stands: here by one run over all records.
+/// The crate reads the MFT's own record before each other one, to find where that one stands: here by one run over all
+/// records.
 fn mft_record(size: usize) -> Vec<u8> {
     let clusters = ((1u64 << 48) * size as u64).div_ceil(CLUSTER);
     let mut r = vec![0u8; size];
@@ -129,8 +130,8 @@ fn refusal(e: &NtfsError, size: usize) -> u64 {
     }
 }
 
-/// Text in a buffer that is used again. Numbers of up to four digits are printed by the same steps as ours, longer ones much like it, so
-/// that what is compared is the walk.
+/// Text in a buffer that is used again. Numbers of up to four digits are printed by the same steps as ours, longer ones
+/// much like it, so that what is compared is the walk.
 pub struct Text {
     bytes: Vec<u8>,
     end: usize,
@@ -217,7 +218,11 @@ fn value(out: &mut Text, a: &NtfsAttribute, size: usize) {
 }
 
 /// The parts one after another, and the refusal that ends them.
-fn gather(v: &mut NtfsAttributeListNonResidentAttributeValue, fs: &mut Volume, parts: &mut Vec<[u64; 5]>) -> Result<()> {
+fn gather(
+    v: &mut NtfsAttributeListNonResidentAttributeValue,
+    fs: &mut Volume,
+    parts: &mut Vec<[u64; 5]>,
+) -> Result<()> {
     let mut more = v.probe_has_part();
     while more {
         parts.push(v.probe_with_part(|p| {
@@ -244,7 +249,13 @@ fn parts(room: &mut Room, a: &NtfsAttribute, fs: &mut Volume) {
 }
 
 fn item(room: &mut Room, a: &NtfsAttribute, fs: &mut Volume) {
-    let head = [probe::record(a), probe::offset(a) as u64, probe::raw_ty(a) as u64, a.attribute_length() as u64, a.instance() as u64];
+    let head = [
+        probe::record(a),
+        probe::offset(a) as u64,
+        probe::raw_ty(a) as u64,
+        a.attribute_length() as u64,
+        a.instance() as u64,
+    ];
     put(&mut room.out, b"attr", &head);
     match probe::name(a) {
         Ok((at, n, _)) => put(&mut room.out, b" name", &[at as u64, n as u64]),

@@ -153,6 +153,15 @@ def chained_table(chance):
     return table({40: record(size, *attributes), **others}, 40)
 
 
+def hurt_outside(chance):
+    """A table whose header or rows are hurt, or which is cut."""
+    text = bytearray(random_table(chance))
+    if chance.random() < 0.3:
+        return bytes(text[:chance.randrange(len(text))])
+    text[chance.randrange(44)] ^= 1 << chance.randrange(8)
+    return bytes(text)
+
+
 # What a large table has at most, as the listing takes it.
 MOST_BYTES = 65536
 

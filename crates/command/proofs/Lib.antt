@@ -1,3 +1,6 @@
 pub mod Escapes
+pub mod Strings
+pub mod Listings
 pub mod Fronts
+pub mod Misfits
 pub mod Moved

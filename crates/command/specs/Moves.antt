@@ -2,7 +2,7 @@
 use Rattle.std.specs.Prelude.{ℕ, ◌≡◌, List, ◌++◌, Option}
 use Rattle.std.specs.Io.KnownBytes.{Consumes, IsAtEnd}
 
--- bytes went from the input to the end of a table, and none at the input's end alone
+-- bytes went from the input to the end of those read before, and none at the input's end alone
 pub record Moves (left after : Option (List ℕ)) (old new : List ℕ) (n : ℕ) : Type 0 where
   pub bytes : List ℕ
   pub grown : new ≡ old ++ bytes

@@ -1,6 +1,7 @@
 -- How much of an input is read.
 use Rattle.std.specs.Prelude.{ℕ, ◌≡◌, ◌≤◌, ◌⊎◌, List, [], ◌++◌, length, ⊤}
-use Rattle.table.specs.Reach.{reach_of}
+use Rattle.command.specs.Asked.{reach_for}
+use Rattle.command.specs.declared.asked.Asked.{Asked}
 use Rattle.command.specs.declared.reason.Reason.{Reason}
 use Rattle.command.specs.declared.reason.Reason.TheVariants.{
   Stopped,
@@ -9,15 +10,17 @@ use Rattle.command.specs.declared.reason.Reason.TheVariants.{
   NoTable,
   NoBaseRow,
   NoRecord,
+  Unfit,
   Unreadable,
   OutOfMemory,
 }
 
--- a front of the input, behind which nothing matters, or all of it
-abbrev pub IsEnough : List ℕ → List ℕ → Type 0
-IsEnough front bytes = (rest : List ℕ) × (bytes ≡ front ++ rest) × ((reach_of front ≤ length front) ⊎ (rest ≡ []))
+-- a front of the input, behind which nothing matters to what is asked, or all of it
+abbrev pub IsEnough : Asked → List ℕ → List ℕ → Type 0
+IsEnough a front bytes =
+    (rest : List ℕ) × (bytes ≡ front ++ rest) × ((reach_for a front ≤ length front) ⊎ (rest ≡ []))
 
--- a reason for which nothing is listed, since the input is not there to be judged
+-- a reason for which nothing is told, since the input is not there to be judged
 abbrev pub IsUnread : Reason → Type 0
 IsUnread (Unreadable error) = ⊤
 IsUnread OutOfMemory = ⊤
@@ -27,3 +30,4 @@ IsUnread RawRecord = ⊥
 IsUnread (NoTable fault) = ⊥
 IsUnread NoBaseRow = ⊥
 IsUnread (NoRecord n) = ⊥
+IsUnread (Unfit misfit cause) = ⊥

@@ -1,10 +1,16 @@
--- Why an input is not listed to its end.
+-- Why what is asked of an input is not told to its end.
 use Rattle.std.specs.Prelude.{ℕ, List, Option, Some, None, length, eqb}
 use Rattle.fields.specs.Pick.{pick}
+use Rattle.fields.specs.declared.Cause.{Cause}
 use Rattle.fields.specs.declared.RecordNumber.{RecordNumber}
+use Rattle.lines.specs.declared.ending.Ending.{Ending}
+use Rattle.lines.specs.declared.ending.Ending.TheVariants as ending
 use Rattle.record.specs.Open.{is_file}
 use Rattle.table.specs.Fault.{fault_of}
 use Rattle.table.specs.declared.faults.Fault.{Fault}
+use Rattle.command.specs.Misfit.{misfit_of}
+use Rattle.command.specs.declared.asked.Asked.{Asked}
+use Rattle.command.specs.declared.asked.Asked.TheVariants as asked
 use Rattle.command.specs.declared.status.Status.{Status}
 use Rattle.command.specs.declared.status.Status.TheVariants as status
 use Rattle.command.specs.declared.reason.Reason.{Reason}
@@ -15,6 +21,7 @@ use Rattle.command.specs.declared.reason.Reason.TheVariants.{
   NoTable,
   NoBaseRow,
   NoRecord,
+  Unfit,
   Unreadable,
   OutOfMemory,
 }
@@ -27,6 +34,7 @@ status_of RawRecord = status.Refused
 status_of (NoTable fault) = status.Refused
 status_of NoBaseRow = status.Refused
 status_of (NoRecord n) = status.Refused
+status_of (Unfit misfit cause) = status.Refused
 status_of (Unreadable error) = status.Unreadable
 status_of OutOfMemory = status.Unreadable
 
@@ -40,9 +48,21 @@ abbrev pub faulty : Option Fault → Option RecordNumber → Reason
 faulty (Some fault) wanted = NoTable fault
 faulty None wanted = lacking wanted
 
--- why the listing of these bytes is refused; two kinds of bytes that are no table have words of their own
-unfoldable pub refused_reason : List ℕ → Option RecordNumber → Reason
-refused_reason t wanted =
+-- two kinds of bytes that are no table have words of their own
+unfoldable pub table_reason : List ℕ → Option RecordNumber → Reason
+table_reason t wanted =
     pick (eqb (length t) 0) Empty
     (pick (is_file t) RawRecord
     (faulty (fault_of t) wanted))
+
+-- why what is asked of these bytes is refused; rows are refused by a fault alone, since they lack nothing
+unfoldable pub refused_reason : Asked → List ℕ → Cause → Reason
+refused_reason (asked.Listing wanted) t cause = table_reason t wanted
+refused_reason asked.Rows t cause = table_reason t None
+refused_reason (asked.Record n) t cause = Unfit (misfit_of t) cause
+
+-- why a report that ended so is not whole
+abbrev pub ending_reason : Asked → List ℕ → Ending → Option Reason
+ending_reason a t ending.Whole = None
+ending_reason a t (ending.Stopped cause) = Some (Stopped cause)
+ending_reason a t (ending.Refused cause) = Some (refused_reason a t cause)

@@ -1,14 +1,14 @@
-//! A table is read as far as it matters, so that a disk or an input without end costs neither minutes nor memory.
+//! An input is read as far as it matters to what is asked of it, so that a disk or an input without end costs neither
+//! minutes nor memory.
 ghost use Rattle.std.specs.Prelude.{◌≡◌, ◌≤◌, ◌<◌, length, take, IfOk, IfErr, IfSome};
 ghost use Rattle.std.specs.Io.KnownBytes.{Consumes, IsAtEnd};
 ghost use Rattle.command.specs.Moves.{Moves};
 ghost use Rattle.command.specs.Read.{IsEnough, IsUnread};
 
-use crate::Reason;
+use crate::{Asked, Reason};
 use std::alloc::Global;
 use std::io;
 use std::io::{ErrorKind, Read};
-use table::reach;
 
 // How many bytes are read at once, at most.
 const CHUNK: usize = 65_536;
@@ -35,16 +35,16 @@ fn read_once<R: Read>(input: &mut R, room: &mut [u8]) -> io::Result<usize>
     Err(io::Error::from(ErrorKind::TimedOut))
 }
 
-// Moves bytes from the input to the table's end, as many as one read gives.
-fn move_bytes<R: Read>(input: &mut R, room: &mut [u8], table: &mut Vec<u8>) -> Result<usize, Reason>
+// Moves bytes from the input to the end of those that were read before, as many as one read gives.
+fn move_bytes<R: Read>(input: &mut R, room: &mut [u8], bytes: &mut Vec<u8>) -> Result<usize, Reason>
     requires { 0 < length room.old }
     ensures ok { IfOk result
-        (Moves (R.remaining input.old) (R.remaining input.new) table.old.items table.new.items) }
+        (Moves (R.remaining input.old) (R.remaining input.new) bytes.old.items bytes.new.items) }
     ensures err { IfErr result IsUnread }
 {
     match read_once(input, room) {
         Ok(count) => {
-            if table.extend_from_slice(&room[..count]).is_err() {
+            if bytes.extend_from_slice(&room[..count]).is_err() {
                 return Err(Reason::OutOfMemory);
             }
             Ok(count)
@@ -53,22 +53,23 @@ fn move_bytes<R: Read>(input: &mut R, room: &mut [u8], table: &mut Vec<u8>) -> R
     }
 }
 
-/// Reads a table as far as it matters: its header, what that calls for, and no more.
+/// Reads an input as far as it matters to what is asked of it, and no further: of a table its header, and what that
+/// calls for; of a record one byte more than a record may have.
 #[tactic(auto, using(crate::proofs::Moved::moved_bytes))]
-pub fn read_table<R: Read>(alloc: Global, input: &mut R) -> Result<Vec<u8>, Reason>
-    ensures ok { IfOk result (λ table. IfSome (R.remaining input.old) (IsEnough table.items)) }
+pub fn read_input<R: Read>(alloc: Global, input: &mut R, asked: Asked) -> Result<Vec<u8>, Reason>
+    ensures ok { IfOk result (λ bytes. IfSome (R.remaining input.old) (IsEnough asked bytes.items)) }
     ensures err { IfErr result IsUnread }
 {
     let mut room = [0u8; CHUNK];
-    let mut table = Vec::new(alloc);
+    let mut bytes = Vec::new(alloc);
     for _ in 0..u64::MAX {
-        let missing = reach(&table).saturating_sub(table.len());
+        let missing = asked.reach(&bytes).saturating_sub(bytes.len());
         if missing == 0 {
-            return Ok(table);
+            return Ok(bytes);
         }
         let most = missing.min(CHUNK);
-        if move_bytes(input, &mut room[..most], &mut table)? == 0 {
-            return Ok(table);
+        if move_bytes(input, &mut room[..most], &mut bytes)? == 0 {
+            return Ok(bytes);
         }
     }
     Err(Reason::Unreadable(io::Error::from(ErrorKind::TimedOut)))

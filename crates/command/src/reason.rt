@@ -1,15 +1,16 @@
-//! Why an input is not listed to its end, in words, and the status that follows.
+//! Why what is asked of an input is not told to its end, in words, and the status that follows.
 ghost use Rattle.std.specs.Prelude.{◌≡◌};
-ghost use Rattle.command.specs.Reason.{status_of, refused_reason};
+ghost use Rattle.command.specs.Reason.{status_of, table_reason, refused_reason, ending_reason};
 
-use crate::Status;
+use crate::{Asked, Misfit, Status};
 use fields::{Cause, RecordNumber};
+use lines::Ending;
 use record::is_file;
 use std::io;
 use table::Fault;
 use thiserror::Error;
 
-/// Why an input is not listed to its end. A number in brackets is that of the refusal (RULES 19).
+/// Why what is asked of an input is not told to its end. A number in brackets is that of the refusal (RULES 19).
 #[derive(Clone, Copy, Debug, Error)]
 pub enum Reason {
     #[error("the listing stops: {0} ({number})", number = .0.number())]
@@ -24,10 +25,30 @@ pub enum Reason {
     NoBaseRow,
     #[error("the table has no record {number} (17)", number = .0.0)]
     NoRecord(RecordNumber),
+    #[error("no record: {0} ({number})", number = .1.number())]
+    Unfit(Misfit, Cause),
     #[error("{0}")]
     Unreadable(io::Error),
     #[error("out of memory")]
     OutOfMemory,
+}
+
+// Why these bytes are no table, or lack what is wanted of one: the record with a number, or a base row.
+#[tactic(auto, unfolding(crate::specs::Reason::table_reason))]
+fn table_reason(bytes: &[u8], wanted: Option<RecordNumber>) -> Reason
+    ensures { result ≡ table_reason bytes.now wanted }
+{
+    if bytes.is_empty() {
+        return Reason::Empty;
+    }
+    if is_file(bytes) {
+        return Reason::RawRecord;
+    }
+    match (Fault::of(bytes), wanted) {
+        (Some(fault), _) => Reason::NoTable(fault),
+        (None, Some(number)) => Reason::NoRecord(number),
+        (None, None) => Reason::NoBaseRow,
+    }
 }
 
 impl Reason {
@@ -41,26 +62,32 @@ impl Reason {
             | Reason::RawRecord
             | Reason::NoTable(_)
             | Reason::NoBaseRow
-            | Reason::NoRecord(_) => Status::Refused,
+            | Reason::NoRecord(_)
+            | Reason::Unfit(..) => Status::Refused,
             Reason::Unreadable(_) | Reason::OutOfMemory => Status::Unreadable,
         }
     }
 
-    /// Why the listing of these bytes is refused: from the base row on, or of the record with a number.
+    /// Why what is asked of these bytes is refused, by a cause.
     #[tactic(auto, unfolding(crate::specs::Reason::refused_reason))]
-    pub fn of_refused(bytes: &[u8], wanted: Option<RecordNumber>) -> Reason
-        ensures { result ≡ refused_reason bytes.now wanted }
+    pub fn of_refused(asked: Asked, bytes: &[u8], cause: Cause) -> Reason
+        ensures { result ≡ refused_reason asked bytes.now cause }
     {
-        if bytes.is_empty() {
-            return Reason::Empty;
+        match asked {
+            Asked::Listing(wanted) => table_reason(bytes, wanted),
+            Asked::Rows => table_reason(bytes, None),
+            Asked::Record(_) => Reason::Unfit(Misfit::of(bytes), cause),
         }
-        if is_file(bytes) {
-            return Reason::RawRecord;
-        }
-        match (Fault::of(bytes), wanted) {
-            (Some(fault), _) => Reason::NoTable(fault),
-            (None, Some(number)) => Reason::NoRecord(number),
-            (None, None) => Reason::NoBaseRow,
+    }
+
+    /// Why a report of what is asked of these bytes, which ended so, did not come to its end, if it did not.
+    pub fn of_ending(asked: Asked, bytes: &[u8], ending: Ending) -> Option<Reason>
+        ensures { result ≡ ending_reason asked bytes.now ending }
+    {
+        match ending {
+            Ending::Whole => None,
+            Ending::Stopped(cause) => Some(Reason::Stopped(cause)),
+            Ending::Refused(cause) => Some(Reason::of_refused(asked, bytes, cause)),
         }
     }
 }

@@ -31,16 +31,17 @@ use Rattle.lines.specs.declared.ending.Ending.TheVariants as ending
 
 -- whatever the line before them said
 Ends : List Line → Type 0
-Ends ls = (o : Option Ending) → (e : Ending) × (said_last o ls ≡ Some e)
+Ends ls = (o : Option Ending) → (e : Ending) × (said_last says o ls ≡ Some e)
 
-last_behind : (o : Option Ending) (xs ys : List Line) → said_last o (xs ++ ys) ≡ said_last (said_last o xs) ys
+last_behind : (o : Option Ending) (xs ys : List Line)
+    → said_last says o (xs ++ ys) ≡ said_last says (said_last says o xs) ys
 unfolding said_last
 last_behind o [] ys = refl
 last_behind o (x ∷ xs) ys = last_behind (says x) xs ys
 
 behind : (xs ys : List Line) → Ends ys → Ends (xs ++ ys)
 unfolding Ends
-behind xs ys h o = let p = h (said_last o xs) in (p.0, last_behind o xs ys ∙ p.1)
+behind xs ys h o = let p = h (said_last says o xs) in (p.0, last_behind o xs ys ∙ p.1)
 
 more : (x : Line) (ys : List Line) → Ends ys → Ends (x ∷ ys)
 unfolding Ends said_last
@@ -100,6 +101,13 @@ numbered room t n (refuses r) = alone _ (ending.Refused BadTable) refl
 finished : (ls : List Line) → Ends ls → Finished ls
 unfolding Ends
 finished ls h = let p = h None in record { ending = p.0; told = p.1 }
+
+-- the listings themselves
+pub table_finishes : (room : ℕ) (t : List ℕ) → Finished (table_listing room t)
+table_finishes room t = finished _ (checked room t (table_of t))
+
+pub record_finishes : (room : ℕ) (t : List ℕ) (n : RecordNumber) → Finished (record_listing room t n)
+record_finishes room t n = finished _ (numbered room t n (table_of t))
 
 as_finished : (ls : List Line) {ms : List Line} → ls ≡ ms → Ends ms → Finished ls
 as_finished ls e h = subst Finished (sym e) (finished _ h)

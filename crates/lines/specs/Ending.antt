@@ -16,10 +16,10 @@ says (line.Stopped c k) = Some (ending.Stopped c)
 says line.TableRefused = Some (ending.Refused BadTable)
 says line.NoRecord = Some (ending.Refused NoRecord)
 
--- what the last of some lines says, where the one before them says e
-unfoldable pub said_last : Option Ending → List Line → Option Ending
-said_last e [] = e
-said_last e (l ∷ ls) = said_last (says l) ls
+-- what the last of some lines says, of whatever kind they are, where the one before them says e
+unfoldable pub said_last : {A : Type 0} → (A → Option Ending) → Option Ending → List A → Option Ending
+said_last of_line e [] = e
+said_last of_line e (l ∷ ls) = said_last of_line (of_line l) ls
 
 abbrev pub ending_of : List Line → Option Ending
-ending_of ls = said_last None ls
+ending_of ls = said_last says None ls

@@ -2,6 +2,7 @@
 pub mod Line
 pub mod Listing
 pub mod Numbered
+pub mod Raw
 pub mod Ending
 pub mod Finished
 pub mod InFile

@@ -5,13 +5,14 @@ ghost use Rattle.record.specs.Told.{shown_record};
 ghost use Rattle.record.specs.View.{span};
 ghost use Rattle.parts.specs.OfFile.{parts_of_file};
 ghost use Rattle.lines.specs.Listing.{name_in, value_in, first_size, parts_contents};
+ghost use Rattle.lines.specs.Raw.{raw_line};
 ghost use Rattle.lines.specs.InFile.{line_in, contents_in, Reads};
 
 use crate::{AttributeLine, Contents, Line, Name};
 use fields::Refusal;
 use items::{File, Item, Rest};
 use parts::Part;
-use record::{Record, Span, Value, View};
+use record::{Attribute, Record, Span, Value, View};
 
 /// The line of an item, how many parts it has, and what was read for them.
 // The parts are told by their count: no heap, so that the caller lends the room.
@@ -150,6 +151,22 @@ fn read_contents(file: &File, value: Contents, rest: Option<Rest>, parts: &mut [
             reads: 0,
         },
     }
+}
+
+/// The line of an attribute of the raw walk, in the record that it lies in (RULES 18.10).
+pub fn raw_line(within: &Record, attribute: &Attribute) -> Line
+    ensures { result ≡ raw_line within.now.bytes.now within.now.number attribute.now }
+{
+    let places = places_in(&Ok(*within), attribute.offset);
+    Line::Attribute(AttributeLine {
+        file: within.number,
+        offset: attribute.offset,
+        ty: attribute.ty,
+        length: attribute.length,
+        instance: attribute.instance,
+        name: places.name,
+        contents: places.value,
+    })
 }
 
 /// The line of an item; its parts are written to the front of the lent list.

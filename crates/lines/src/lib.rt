@@ -14,6 +14,7 @@ mod write;
 
 pub use ending::Ending;
 pub use fill::{Listed, list};
+pub use item::raw_line;
 pub use line::{AttributeLine, Contents, Line, Name};
 use parts::Part;
 pub use put::put_line;

@@ -1,5 +1,7 @@
 -- An input that is cut behind the first byte too many is refused like the whole of it.
-use Rattle.std.proofs.Common.{ℕ, suc, ◌≡◌, List, Bool, true, false, ltb, length, take, Option, None, Some, Result, Ok, Err, IfSome, option_map, [], ◌∷◌, ◌++◌, refl, sym, ap, ◌∙◌, subst, arith, take_all, length-take-le}
+use Rattle.std.proofs.Common.{ℕ, suc, ◌≡◌, List, [], ◌∷◌, ◌++◌, length, take, Bool, true, false, ltb}
+use Rattle.std.proofs.Common.{Option, None, Some, option_map, IfSome, Result, Ok, Err}
+use Rattle.std.proofs.Common.{refl, sym, ap, ◌∙◌, subst, arith, take_all, length-take-le}
 use Rattle.std.proofs.lemmas.Bool.{ltb-true, lt-ltb}
 use Rattle.std.specs.Io.KnownBytes.{Appends}
 use Rattle.std.specs.declared.io.Error.{Error}

@@ -1,31 +1,39 @@
-//! Lists tables of NTFS records: `nomutanku list [TABLE..]`, `nomutanku explain N` (docs/REFERENCE.md, "The command").
+//! Tells what tables of NTFS records, and single records, hold: `nomutanku list`, `rows`, `record` and `explain`
+//! (docs/REFERENCE.md, "The command").
 #![tactic(auto)]
 
 mod explain;
 mod failed;
 mod given;
+mod inputs;
 mod options;
-mod tables;
+mod progress;
+mod wishes;
 
 use clap::ArgMatches;
 use clap::error::ErrorKind;
-use command::{Given, Status};
+use command::Status;
 use failed::Failed;
+use inputs::Streams;
+use options::INPUTS;
 use std::io::IsTerminal;
 use std::process::ExitCode;
-use std::rt::{Env, Files};
+use std::rt::{Clock, Env, Files};
 use std::{env, io};
 
 /// Does what the command line asks for.
-fn obey<R: Print + Eprint + Input + Files + AllocGlobal>(
+fn obey<R: Print + Eprint + Input + Files + Clock + AllocGlobal>(
     rt: &R,
-    given: Given,
+    streams: Streams,
     asked: &ArgMatches,
 ) -> Result<Status, Failed> {
     match asked.subcommand() {
-        Some(("list", options)) => tables::obey(rt, given, options),
         Some(("explain", options)) => explain::obey(rt, options),
-        _ => Ok(Status::Usage),
+        Some((name, options)) => match wishes::wish(name, options) {
+            Some(wish) => inputs::obey(rt, streams, wish, options.get_strs(INPUTS)),
+            None => Ok(Status::Usage),
+        },
+        None => Ok(Status::Usage),
     }
 }
 
@@ -43,9 +51,9 @@ fn tell<R: Print + Eprint>(rt: &R, error: &clap::Error) -> Result<Status, Failed
 }
 
 /// Reads the command line and does what it asks for.
-fn run<R: Print + Eprint + Input + Files + Env + AllocGlobal>(
+fn run<R: Print + Eprint + Input + Files + Clock + Env + AllocGlobal>(
     rt: &R,
-    given: Given,
+    streams: Streams,
 ) -> Result<Status, Failed> {
     let words = match env::args(rt) {
         Ok(words) => words,
@@ -59,14 +67,17 @@ fn run<R: Print + Eprint + Input + Files + Env + AllocGlobal>(
     };
     let words: Vec<String> = words.collect(rt.alloc())?;
     match options::command(rt.alloc())?.try_get_matches_from(words.as_slice()) {
-        Ok(asked) => obey(rt, given, &asked),
+        Ok(asked) => obey(rt, streams, &asked),
         Err(error) => tell(rt, &error),
     }
 }
 
 fn main(rt: HostRuntime) -> ExitCode {
-    let given = given::given(&rt, rt.stdin().is_terminal());
-    let status = match run(&rt, given) {
+    let streams = Streams {
+        given: given::given(&rt, rt.stdin().is_terminal()),
+        watched: rt.stderr().is_terminal(),
+    };
+    let status = match run(&rt, streams) {
         Ok(status) => status,
         Err(failed) => {
             failed.tell(&rt);

@@ -3,9 +3,31 @@
 use clap::{Arg, ArgAction, Command, value_parser};
 use std::alloc::{AllocError, Global};
 
+/// By this id the inputs that are named are asked for.
+pub const INPUTS: &str = "inputs";
+
 const STATUSES: &str =
-    "Exit status, the worst of several: 0 whole, 1 stopped, 2 no table or no such record,\n\
+    "Exit status, the worst of several: 0 whole, 1 stopped, 2 refused: no table, or no such record,\n\
     3 unreadable or out of memory, 64 bad usage, 74 output not written.";
+
+const PROTECTED: &str =
+    "A record as it lies on the disk is protected: the last two bytes of each 512 are replaced by a\n\
+    check number. What is wanted here is its fixed-up extract, which has its own bytes there again.";
+
+fn json<'a>(alloc: Global) -> Arg<'a> {
+    Arg::new(alloc, "json")
+        .long("json")
+        .action(ArgAction::SetTrue)
+        .help("Write an object of JSON for each line")
+}
+
+fn tables<'a>(alloc: Global) -> Arg<'a> {
+    Arg::new(alloc, INPUTS)
+        .value_name("TABLE")
+        .action(ArgAction::Append)
+        .num_args(0..)
+        .help("Tables of records; - is standard input, as is none where something is piped in")
+}
 
 fn list<'a>(alloc: Global) -> Result<Command<'a>, AllocError> {
     let base = Arg::new(alloc, "base")
@@ -13,15 +35,35 @@ fn list<'a>(alloc: Global) -> Result<Command<'a>, AllocError> {
         .value_name("N")
         .value_parser(value_parser!(u64))
         .help("List the record with number N, where it is not the base row that is wanted");
-    let tables = Arg::new(alloc, "tables")
-        .value_name("TABLE")
-        .action(ArgAction::Append)
-        .num_args(0..)
-        .help("Tables of records; - is standard input, as is none where something is piped in");
     Command::new(alloc, "list")
         .about("List the attributes of a table's base record, with their parts")
         .arg(base)?
-        .arg(tables)
+        .arg(json(alloc))?
+        .arg(tables(alloc))
+}
+
+fn rows<'a>(alloc: Global) -> Result<Command<'a>, AllocError> {
+    Command::new(alloc, "rows")
+        .about("Tell what a table holds: each row's record number, place and state")
+        .arg(json(alloc))?
+        .arg(tables(alloc))
+}
+
+fn one_record<'a>(alloc: Global) -> Result<Command<'a>, AllocError> {
+    let number = Arg::new(alloc, "number")
+        .long("number")
+        .value_name("N")
+        .value_parser(value_parser!(u64))
+        .help("The record's number, which its lines name; 0 where it is left out");
+    let file = Arg::new(alloc, INPUTS).value_name("FILE").help(
+        "One fixed-up record; - is standard input, as is none where something is piped in",
+    );
+    Command::new(alloc, "record")
+        .about("Tell one fixed-up record's header, and its attributes as they stand in it")
+        .after_help(PROTECTED)
+        .arg(number)?
+        .arg(json(alloc))?
+        .arg(file)
 }
 
 fn explain<'a>(alloc: Global) -> Result<Command<'a>, AllocError> {
@@ -35,7 +77,7 @@ fn explain<'a>(alloc: Global) -> Result<Command<'a>, AllocError> {
         .arg(number)
 }
 
-/// `nomutanku list` and `nomutanku explain`, with their options.
+/// The subcommands, with their options.
 pub fn command<'a>(alloc: Global) -> Result<Command<'a>, AllocError> {
     Command::new(alloc, "nomutanku")
         .version("2.0.0")
@@ -44,5 +86,7 @@ pub fn command<'a>(alloc: Global) -> Result<Command<'a>, AllocError> {
         .subcommand_required(true)
         .arg_required_else_help(true)
         .subcommand(list(alloc)?)?
+        .subcommand(rows(alloc)?)?
+        .subcommand(one_record(alloc)?)?
         .subcommand(explain(alloc)?)
 }

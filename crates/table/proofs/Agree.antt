@@ -28,7 +28,8 @@ module _ (t : List ℕ) (h : TableHeader) where
   abbrev pub fault_at : ℕ → Option Fault
   fault_at i = row_fault (length t) h (rises t h i) (row_at t h i)
 
-  row_agrees : (i : ℕ) → pick {A = Outcome (Unit {0})} (good_row t h i) (gives tt) (refuses (malformed (row_at t h i).place))
+  row_agrees : (i : ℕ)
+      → pick {A = Outcome (Unit {0})} (good_row t h i) (gives tt) (refuses (malformed (row_at t h i).place))
       ≡ judged tt (fault_at i)
   unfolding good_row row_fault
   row_agrees i = grind (arith, nat_tests)

@@ -37,11 +37,13 @@ use Rattle.table.specs.Fault.{numbers_fault, head_fault, row_fault, rows_fault, 
 use Rattle.table.specs.Laws.{judged}
 use Rattle.table.specs.Held.{Held, held_at, held_from, held_of, record_at, record_in, record_of}
 use Rattle.table.specs.Held.{base_row, base_of}
+use Rattle.table.specs.Rows.{filed_at, filed_from, filed_of}
 use Rattle.table.specs.Reach.{rows_reach, behind_header, reach_of}
 use Rattle.table.specs.declared.check.TableHeader.{TableHeader}
 use Rattle.table.specs.declared.check.Row.{Row}
 use Rattle.table.specs.declared.faults.Fault.{Fault}
 use Rattle.table.proofs.Agree.{faults_agree}
+use Rattle.table.proofs.Sound.{sound}
 
 -- what the loop over the rows goes by
 pub directory_ends : (m : ℕ) (h : TableHeader) → numbers_fault m h ≡ None → h.directory + row_size * h.count ≤ h.records
@@ -159,20 +161,34 @@ module _ (t r : List ℕ) (h : TableHeader) (rows : Rows t h) where
         row_fault_either (length (t ++ r)) (length t) h (rises t h i) (row_at t h i) (omega arith) a,
       ) refl
 
+  -- a row's record
+  same_bytes : (i : ℕ) → i < h.count
+      → take h.size (drop (row_at t h i).offset (t ++ r)) ≡ take h.size (drop (row_at t h i).offset t)
+  same_bytes i l =
+      let a = record_ends i l in
+      let o = (row_at t h i).offset in
+      ap (take h.size) (drop-append-le o t r (omega arith))
+      ∙ take-append-le h.size (drop o t) r (omega (arith, length-drop o t))
+
   same_held : (i : ℕ) → i < h.count → held_at (t ++ r) h i ≡ held_at t h i
   unfolding held_at record_at
   same_held i l =
-      let a = record_ends i l in
-      let o = (row_at t h i).offset in
-      let cut : take h.size (drop o (t ++ r)) ≡ take h.size (drop o t) =
-      ap (take h.size) (drop-append-le o t r (omega arith))
-      ∙ take-append-le h.size (drop o t) r (omega (arith, length-drop o t)) in
-      rw (same_row i l, cut) refl
+      rw (same_row i l, same_bytes i l) refl
 
   same_from : (k i : ℕ) → i + k ≤ h.count → held_from (t ++ r) h k i ≡ held_from t h k i
   unfolding held_from
   same_from zero i l = refl
   same_from (suc k) i l = rw (same_held i (omega arith), same_from k (i + 1) (omega arith)) refl
+
+  same_filed : (i : ℕ) → i < h.count → filed_at (t ++ r) h i ≡ filed_at t h i
+  unfolding record_at
+  same_filed i l =
+      rw (same_row i l, same_bytes i l) refl
+
+  same_rows : (k i : ℕ) → i + k ≤ h.count → filed_from (t ++ r) h k i ≡ filed_from t h k i
+  unfolding filed_from
+  same_rows zero i l = refl
+  same_rows (suc k) i l = rw (same_filed i (omega arith), same_rows k (i + 1) (omega arith)) refl
 
 -- a front that is as long as its reach
 module _ (t r : List ℕ) (enough : reach_of t ≤ length t) where
@@ -285,3 +301,8 @@ module _ (t r : List ℕ) (enough : reach_of t ≤ length t) (k : TableHeader) (
   base_same =
       ap (λ (x : TableHeader). option_map (held_at (t ++ r) x) (base_row x)) header
       ∙ based_same (base_row own) base_below
+
+  pub filed_same : filed_of (t ++ r) k ≡ filed_of t k
+  filed_same =
+      subst (λ (x : TableHeader). filed_of (t ++ r) x ≡ filed_of t x) (sym (sound t k checked).head.is)
+      (same_rows t r own rows own.count 0 (omega arith))

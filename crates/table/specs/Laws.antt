@@ -1,6 +1,7 @@
 -- RULES 10: what a table that passed its check is, and what its calls leave open; src/laws.rt has the functions
 -- whose contracts these are.
-use Rattle.std.specs.Prelude.{ℕ, true, ◌+◌, ◌*◌, ◌<◌, ◌≤◌, ◌≡◌, List, ◌++◌, length, Option, Some, None, Result, Ok, Err, IfOk}
+use Rattle.std.specs.Prelude.{ℕ, true, ◌+◌, ◌*◌, ◌<◌, ◌≤◌, ◌≡◌, List, ◌++◌, length, Option, Some, None}
+use Rattle.std.specs.Prelude.{Result, Ok, Err, IfOk}
 use Rattle.fields.specs.Answer.{Outcome, gives, refuses}
 use Rattle.fields.specs.Told.{told_as}
 use Rattle.fields.specs.Length.{good_length}

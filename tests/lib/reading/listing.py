@@ -108,6 +108,12 @@ def value_said(record, number, at):
     return "value runs %d %d size %d" % told
 
 
+def attribute_said(held, file, a, ended):
+    """The line of an attribute; what stands for its value is handed in."""
+    return "attr %d %d %d %d %d %s %s" % (
+        file, a.offset, a.ty, a.length, a.instance, name_said(held, file, a.offset), ended)
+
+
 def item_lines(record, number, rows, item):
     """(lines of an item, reads of its parts)."""
     # an item of a looked-up record has its name and value there
@@ -122,9 +128,7 @@ def item_lines(record, number, rows, item):
         tail = "size %d" % found[0].size if refusal is None else "refused %d" % refusal.number
         ended = "value parts %d %s" % (len(found), tail)
         under = ["part %d %d %d %d %d" % part[:5] for part in found]
-    line = "attr %d %d %d %d %d %s %s" % (
-        item.file, a.offset, a.ty, a.length, a.instance, name_said(held, item.file, a.offset), ended)
-    return [line] + under, reads
+    return [attribute_said(held, item.file, a, ended)] + under, reads
 
 
 def lines(table, wanted=None, most=MOST):
@@ -166,6 +170,11 @@ def lines(table, wanted=None, most=MOST):
         yield from said
 
 
+def text_of(told):
+    """The bytes of lines: each ends in one LF, the last too."""
+    return "".join(line + "\n" for line in told).encode("ascii")
+
+
 def listing(table, wanted=None, most=MOST):
-    """The listing's bytes: lines end in one LF, the last too."""
-    return "".join(line + "\n" for line in lines(bytes(table), wanted, most)).encode("ascii")
+    """The listing's bytes."""
+    return text_of(lines(bytes(table), wanted, most))

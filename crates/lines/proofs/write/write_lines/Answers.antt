@@ -14,7 +14,7 @@ lines-preserved g c =
     in
     record {
       went = went_line _ _ _ _ _ _ _ _ _ _ _ _ _ i.went c.in_ok-from.ensures.ok c.in-Some.ensures.gives p;
-      told = said_more _ _ _ _ _ _ i.told c.in-Some.ensures.gives c.ending-said.ensures;
+      told = said_more _ _ _ _ _ _ _ i.told c.in-Some.ensures.gives c.ending-said.ensures;
       size = p.long ∙ i.size;
       most = omega arith;
     }
@@ -28,9 +28,9 @@ returns-clause-ok g c = went_end _ _ _ _ _ _ c.lines.invariant.went c.in_default
     c.in_ok-write_all.ensures.ok
 
 pub returns-clause-ending : goal.returns-clause-ending
-returns-clause-ending g c = sym (said_end _ _ _ c.lines.invariant.told c.in_default.ensures.gives.0)
+returns-clause-ending g c = sym (said_end _ _ _ _ c.lines.invariant.told c.in_default.ensures.gives.0)
     ∙ c.in-Some-said.is
 
 pub unreachable-requires : goal.unreachable-requires
 unreachable-requires g c = said_none _ c.requires
-    (sym c.in-None.is ∙ said_end _ _ _ c.lines.invariant.told c.in_default.ensures.gives.0)
+    (sym c.in-None.is ∙ said_end _ _ _ _ c.lines.invariant.told c.in_default.ensures.gives.0)

@@ -1,6 +1,0 @@
--- The table is what was taken of the input.
-use Rattle.std.specs.Io.KnownBytes.{Consumes}
-use Rattle.command.proofs.read.read_table.Given as goal
-
-abbrev pub invariant-loop : goal.invariant-loop
-invariant-loop g l = Consumes (g.R.Read.remaining l.initial.input) (g.R.Read.remaining l.input) l.table.items

@@ -1,0 +1,20 @@
+-- RULES 18.10: the line of an attribute as the raw walk gives it, in its own record.
+use Rattle.std.specs.Prelude.{ℕ, List}
+use Rattle.fields.specs.declared.RecordNumber.{RecordNumber}
+use Rattle.record.specs.Name.{name_of}
+use Rattle.record.specs.Value.{value_of}
+use Rattle.record.specs.declared.layout.Attribute.{Attribute}
+use Rattle.lines.specs.Listing.{named, valued}
+use Rattle.lines.specs.declared.line.Line.{Line}
+use Rattle.lines.specs.declared.line.Line.TheVariants as line
+
+abbrev pub raw_line : List ℕ → RecordNumber → Attribute → Line
+raw_line s n h = line.Attribute (record {
+  file = n;
+  offset = h.offset;
+  ty = h.ty;
+  length = h.length;
+  instance = h.instance;
+  name = named (name_of s n h.offset);
+  contents = valued (value_of s n h.offset);
+})

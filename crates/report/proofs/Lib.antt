@@ -1,0 +1,5 @@
+pub mod Said
+pub mod Endings
+pub mod Goes
+pub mod Alike
+pub mod Opened

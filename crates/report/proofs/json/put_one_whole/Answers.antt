@@ -1,0 +1,7 @@
+use Rattle.std.proofs.Common.{arith, rules}
+use Rattle.text.proofs.Puts.{both, said}
+use Rattle.report.proofs.json.put_one_whole.Goals as goal
+
+pub returns : goal.returns
+returns c = let r = c.requires.short in said (both c.put_field-end.ensures c.put_fixed.ensures) (search rules)
+    (omega arith)

@@ -1,0 +1,221 @@
+//! The lines of a report, one by one: no memory is allocated (RULES 18.9, 18.10).
+ghost use Rattle.std.specs.Prelude.{◌≡◌, List, [], ◌∷◌, map};
+ghost use Rattle.record.specs.Rest as records;
+ghost use Rattle.table.specs.Rows as tables;
+ghost use Rattle.parts.specs.declared.Part.{Part};
+ghost use Rattle.lines.specs.Rest as listings;
+ghost use Rattle.report.specs.declared.line.Line.TheVariants as line;
+ghost use Rattle.report.specs.Rows.{row_of, rows_behind};
+ghost use Rattle.report.specs.Record.{walk_lines};
+ghost use Rattle.report.specs.Rest.{source_rest, Gives};
+
+use crate::{Line, State};
+use fields::RecordNumber;
+use lines::raw_line;
+use parts::Part;
+use record::{Attributes, Record};
+use table::{EachRow, Row, Table};
+
+/// Where the next line comes from: rows, of which there were so many in all, or the attributes of a record.
+// The count and the record stand beside the iterators, whose contracts tell only what they give.
+#[derive(Clone, Copy)]
+pub enum Source<'a> {
+    Done,
+    Listing(lines::Lines<'a>),
+    Rows(EachRow<'a>, usize),
+    Attributes(Record<'a>, Attributes<'a>),
+}
+
+/// A line, if one is to come, and where the next one comes from.
+#[derive(Clone, Copy)]
+pub struct Stepped<'a> {
+    pub line: Option<Line>,
+    pub left: Source<'a>,
+}
+
+/// The lines of a report that are still to come.
+#[derive(Clone, Copy)]
+pub struct Lines<'a> {
+    pub first: Option<Line>,
+    pub second: Option<Line>,
+    pub source: Source<'a>,
+}
+
+#[tactic(auto, unfolding(crate::specs::Rows::row_of))]
+fn row_line(row: Row, bytes: &[u8]) -> Line
+    ensures { result ≡ row_of (record { row = row; bytes = bytes.now }) }
+{
+    Line::Row {
+        number: row.number,
+        place: row.offset as usize,
+        state: State::of(bytes, row.number),
+    }
+}
+
+// A line of a listing.
+fn step_listing<'a>(mut listing: lines::Lines<'a>, parts: &mut [Part]) -> Stepped<'a>
+    ensures { Gives (map (λ x. line.Listed x) (listings.rest parts.old listing.entry)) result.line
+        (source_rest parts.new result.left) }
+{
+    match listing.next(parts) {
+        Some(line) => Stepped {
+            line: Some(Line::Listed(line)),
+            left: Source::Listing(listing),
+        },
+        None => Stepped {
+            line: None,
+            left: Source::Done,
+        },
+    }
+}
+
+// A row's line, or how many there were.
+fn step_rows<'a>(mut rows: EachRow<'a>, count: usize) -> Stepped<'a>
+    ensures { (ps : List Part) →
+        Gives (rows_behind (tables.rest rows.entry) count) result.line (source_rest ps result.left) }
+{
+    match rows.next() {
+        Some((row, bytes)) => Stepped {
+            line: Some(row_line(row, bytes)),
+            left: Source::Rows(rows, count),
+        },
+        None => Stepped {
+            line: Some(Line::Rows { count }),
+            left: Source::Done,
+        },
+    }
+}
+
+// An attribute's line, or how the walk ended.
+#[tactic(auto, unfolding(crate::specs::Record::walk_lines))]
+fn step_attributes<'a>(within: Record<'a>, mut attributes: Attributes<'a>) -> Stepped<'a>
+    ensures { (ps : List Part) → Gives (walk_lines within.entry.bytes.now within.entry.number
+        (records.rest attributes.entry)) result.line (source_rest ps result.left) }
+{
+    match attributes.next() {
+        Some(Ok(attribute)) => Stepped {
+            line: Some(Line::Listed(raw_line(&within, &attribute))),
+            left: Source::Attributes(within, attributes),
+        },
+        Some(Err(r)) => Stepped {
+            line: Some(Line::Stopped(r.cause)),
+            left: Source::Done,
+        },
+        None => Stepped {
+            line: Some(Line::End),
+            left: Source::Done,
+        },
+    }
+}
+
+impl<'a> Source<'a> {
+    ghost use Rattle.report.specs.Rest.{Steps};
+
+    /// The next line: a listing's, a row's or an attribute's, and behind the last of these how many rows there were, or
+    /// how the walk ended. The list is lent as in a listing.
+    pub fn step(self, parts: &mut [Part]) -> Stepped<'a>
+        ensures { Steps parts.old self.entry parts.new result }
+    {
+        match self {
+            Source::Done => Stepped {
+                line: None,
+                left: Source::Done,
+            },
+            Source::Listing(listing) => step_listing(listing, parts),
+            Source::Rows(rows, count) => step_rows(rows, count),
+            Source::Attributes(within, attributes) => step_attributes(within, attributes),
+        }
+    }
+}
+
+impl<'a> Lines<'a> {
+    ghost use Rattle.std.specs.Prelude.{◌≡◌, ◌∷◌, [], List, length};
+    ghost use Rattle.parts.specs.declared.Part.{Part};
+    ghost use Rattle.report.specs.Rows.{rows_report};
+    ghost use Rattle.report.specs.Record.{record_report};
+    ghost use Rattle.report.specs.Listing.{table_report, numbered_report};
+    ghost use Rattle.report.specs.Rest.{rest, Gives};
+
+    // One line and no more.
+    fn only(line: Line) -> Lines<'a>
+        ensures { (ps : List Part) → rest ps result ≡ line ∷ [] }
+    {
+        Lines {
+            first: Some(line),
+            second: None,
+            source: Source::Done,
+        }
+    }
+
+    /// The listing of a table of any size.
+    pub fn of_table(table: &'a [u8]) -> Lines<'a>
+        ensures { (ps : List Part) → rest ps result ≡ table_report (length ps) table.now }
+    {
+        Lines {
+            first: None,
+            second: None,
+            source: Source::Listing(lines::Lines::of_bytes(table)),
+        }
+    }
+
+    /// The listing of the record with a number, in a table of any size.
+    pub fn of_numbered(table: &'a [u8], number: RecordNumber) -> Lines<'a>
+        ensures { (ps : List Part) → rest ps result ≡ numbered_report (length ps) table.now number }
+    {
+        Lines {
+            first: None,
+            second: None,
+            source: Source::Listing(lines::Lines::of_record_in(table, number)),
+        }
+    }
+
+    /// What the rows of a table hold, of any bytes: 21 is the only line where they are no table.
+    #[tactic(auto, unfolding(crate::specs::Rows::rows_lines))]
+    pub fn of_rows(table: &'a [u8]) -> Lines<'a>
+        ensures { (ps : List Part) → rest ps result ≡ rows_report table.now }
+    {
+        match Table::check(table) {
+            Ok(table) => Lines {
+                first: None,
+                second: None,
+                source: Source::Rows(table.rows(), table.header.count as usize),
+            },
+            Err(_) => Lines::only(Line::Listed(lines::Line::TableRefused)),
+        }
+    }
+
+    /// One record, of any bytes, with a number: 1 or 2 is the only line where it is refused.
+    #[tactic(auto, unfolding(crate::specs::Record::record_lines))]
+    pub fn of_record(bytes: &'a [u8], number: RecordNumber) -> Lines<'a>
+        ensures { (ps : List Part) → rest ps result ≡ record_report bytes.now number }
+    {
+        match Record::open(bytes, number) {
+            Ok(opened) => Lines {
+                first: Some(Line::Listed(lines::Line::Record {
+                    number: opened.number,
+                    size: opened.bytes.len(),
+                })),
+                second: Some(Line::Header(opened.header())),
+                source: Source::Attributes(opened, opened.attributes()),
+            },
+            Err(r) => Lines::only(Line::Refused(r.cause)),
+        }
+    }
+
+    /// The next line, or that all have been given.
+    pub fn next(&mut self, parts: &mut [Part]) -> Option<Line>
+        ensures { Gives (rest parts.old self.old) result (rest parts.new self.new) }
+    {
+        if let Some(line) = self.first {
+            self.first = None;
+            return Some(line);
+        }
+        if let Some(line) = self.second {
+            self.second = None;
+            return Some(line);
+        }
+        let stepped = self.source.step(parts);
+        self.source = stepped.left;
+        stepped.line
+    }
+}
