@@ -1,5 +1,5 @@
 -- What is read of an input is enough for what is asked of it, and for the reason that is told.
-use Rattle.std.specs.Prelude.{ℕ, ◌≤◌, ◌≡◌, List, ◌∷◌, ◌++◌, true, false, length, map, leb}
+use Rattle.std.specs.Prelude.{ℕ, ◌≤◌, ◌≡◌, List, [], ◌∷◌, ◌++◌, true, false, length, map, leb}
 use Rattle.std.specs.Prelude.{eqb, Option, Some, None, IfSome, Result, Ok, Err, IfOk, OnErr}
 use Rattle.std.specs.Io.KnownBytes.{Appends}
 use Rattle.std.proofs.KnownBytes.{Keeps-refl}
@@ -191,4 +191,16 @@ pub skipped : {E : Type 0} (o : Option (List ℕ)) (a : Asked) (f : Form) (old :
 skipped None a f old reason r e u = tt
 skipped (Some bytes) a f old reason r e u = rw e (inr (Keeps-refl old, u))
 
-pub ruleset runs = (ran_over, skipped)
+-- the same, of bytes that no contract knows
+pub ran : {E : Type 0} (a : Asked) (f : Form) (t : List ℕ) (old new : Option (List ℕ)) (r : Result (Option Reason) E)
+    → IfOk r (λ reason. Tells a f t old new reason)
+    → OnErr r (StopsWithin old new (lines_text f (asked_lines a t))) → Ran a f t old new r
+ran a f t old new (Ok reason) k e = inl k
+ran a f t old new (Err x) k e = e
+
+pub skipped_any : {E : Type 0} (a : Asked) (f : Form) (old : Option (List ℕ)) (reason : Reason)
+    (r : Result (Option Reason) E) → r ≡ Ok (Some reason) → IsUnread reason
+    → (bytes : List ℕ) × Ran a f bytes old old r
+skipped_any a f old reason r e u = ([], rw e (inr (Keeps-refl old, u)))
+
+pub ruleset runs = (ran_over, skipped, skipped_any)

@@ -1,5 +1,5 @@
 //! An input, read and told as it is asked for, and the reason where it is not told to its end.
-ghost use Rattle.std.specs.Prelude.{◌≡◌, Some, IfOk, OnOk, OnErr, IfSome};
+ghost use Rattle.std.specs.Prelude.{◌≡◌, ℕ, List, Some, IfOk, OnOk, OnErr, IfSome};
 ghost use Rattle.std.specs.Io.KnownBytes.{Appends};
 ghost use Rattle.lines.specs.Went.{StopsWithin};
 ghost use Rattle.report.specs.Form.{lines_text};
@@ -105,7 +105,7 @@ pub fn write_report<W: Write>(
 }
 
 /// Reads an input as far as it matters and writes what is asked of it. Nothing is written of an input that can't be
-/// read.
+/// read. Where no contract knows what the reader gives, it is what is asked of some bytes.
 #[tactic(auto, using(crate::proofs::Fronts::runs))]
 pub fn report_input<R: Read, W: Write>(
     alloc: Global,
@@ -114,8 +114,9 @@ pub fn report_input<R: Read, W: Write>(
     form: Form,
     out: &mut W,
 ) -> io::Result<Option<Reason>>
-    ensures { IfSome (R.remaining input.old) (λ bytes.
+    ensures known { IfSome (R.remaining input.old) (λ bytes.
         Ran asked form bytes (W.contents out.old) (W.contents out.new) result) }
+    ensures unknown { (bytes : List ℕ) × Ran asked form bytes (W.contents out.old) (W.contents out.new) result }
 {
     match read_input(alloc, input, asked) {
         Ok(bytes) => write_report(&bytes, asked, form, out),

@@ -13,13 +13,22 @@ pub enum Failed {
 }
 
 impl From<AllocError> for Failed {
+    ghost use Rattle.nomutanku.specs.declared.failed.Failed.TheVariants.{Memory};
+
+    ghost from_gives = { λ _ failed. failed ≡ Memory };
+
     fn from(_error: AllocError) -> Failed {
         Failed::Memory
     }
 }
 
 impl Failed {
-    pub fn status(self) -> Status {
+    ghost use Rattle.nomutanku.specs.Answers.{status_of};
+
+    /// The exit status that follows.
+    pub fn status(self) -> Status
+        ensures { result ≡ status_of self }
+    {
         match self {
             Failed::Memory => Status::Unreadable,
             Failed::Output(_) => Status::NotWritten,

@@ -1,4 +1,5 @@
 //! What standard input is, as the system tells.
+ghost use Rattle.std.specs.Prelude.{◌≡◌, ◌↔◌, IsTrue};
 
 use command::Given;
 use std::fs;
@@ -9,7 +10,9 @@ use std::rt::Files;
 const PATH: &str = "/dev/stdin";
 
 /// What standard input is; closed too where the system has no such path.
-pub fn given(files: &impl Files, is_terminal: bool) -> Given {
+pub fn given(files: &impl Files, is_terminal: bool) -> Given
+    ensures { IsTrue is_terminal ↔ (result ≡ Given.Terminal) }
+{
     if is_terminal {
         return Given::Terminal;
     }

@@ -2,10 +2,16 @@
 //! (docs/REFERENCE.md, "The command").
 #![tactic(auto)]
 
+ghost use Rattle.std.specs.Prelude.{◌≡◌, Ok, None, map, string_bytes};
+ghost use Rattle.clap.specs.Words.{kind_of, subcommand_name_of};
+ghost use Rattle.command.specs.declared.status.Status.TheVariants.{Usage};
+ghost use Rattle.nomutanku.specs.Answers.{Tells, Answers};
+
 mod explain;
 mod failed;
 mod given;
 mod inputs;
+mod numbers;
 mod options;
 mod progress;
 mod wishes;
@@ -26,7 +32,9 @@ fn obey<R: Print + Eprint + Input + Files + Clock + AllocGlobal>(
     rt: &R,
     streams: Streams,
     asked: &ArgMatches,
-) -> Result<Status, Failed> {
+) -> Result<Status, Failed>
+    ensures { subcommand_name_of asked.now ≡ None → result ≡ Ok Usage }
+{
     match asked.subcommand() {
         Some(("explain", options)) => explain::obey(rt, options),
         Some((name, options)) => match wishes::wish(name, options) {
@@ -38,7 +46,9 @@ fn obey<R: Print + Eprint + Input + Files + Clock + AllocGlobal>(
 }
 
 /// Tells what is wrong with the command line, or prints the help or the version that it asks for.
-fn tell<R: Print + Eprint>(rt: &R, error: &clap::Error) -> Result<Status, Failed> {
+fn tell<R: Print + Eprint>(rt: &R, error: &clap::Error) -> Result<Status, Failed>
+    ensures { Tells (kind_of error.now) result }
+{
     if error.kind() == ErrorKind::OutOfMemory {
         return Err(Failed::Memory);
     }
@@ -48,6 +58,21 @@ fn tell<R: Print + Eprint>(rt: &R, error: &clap::Error) -> Result<Status, Failed
     }
     printed.map_err(Failed::Output)?;
     Ok(Status::Whole)
+}
+
+/// Does what these words ask for, or tells what is wrong with them.
+#[tactic(auto, using(crate::proofs::Words::no_memory))]
+fn answer<R: Print + Eprint + Input + Files + Clock + AllocGlobal>(
+    rt: &R,
+    streams: Streams,
+    words: &[String],
+) -> Result<Status, Failed>
+    ensures { Answers (map string_bytes words.now) result }
+{
+    match options::command(rt.alloc())?.try_get_matches_from(words) {
+        Ok(asked) => obey(rt, streams, &asked),
+        Err(error) => tell(rt, &error),
+    }
 }
 
 /// Reads the command line and does what it asks for.
@@ -66,10 +91,7 @@ fn run<R: Print + Eprint + Input + Files + Clock + Env + AllocGlobal>(
         }
     };
     let words: Vec<String> = words.collect(rt.alloc())?;
-    match options::command(rt.alloc())?.try_get_matches_from(words.as_slice()) {
-        Ok(asked) => obey(rt, streams, &asked),
-        Err(error) => tell(rt, &error),
-    }
+    answer(rt, streams, words.as_slice())
 }
 
 fn main(rt: HostRuntime) -> ExitCode {

@@ -1,4 +1,7 @@
 //! The command line.
+ghost use Rattle.std.specs.Prelude.{IfOk};
+ghost use Rattle.nomutanku.specs.CommandLine.{IsRead, Is, leaf, number_rule, json_rule, tables_rule, command_line};
+ghost use Rattle.nomutanku.specs.CommandLine.{list_shape, rows_shape, record_shape, explain_shape};
 
 use clap::{Arg, ArgAction, Command, value_parser};
 use std::alloc::{AllocError, Global};
@@ -14,14 +17,27 @@ const PROTECTED: &str =
     "A record as it lies on the disk is protected: the last two bytes of each 512 are replaced by a\n\
     check number. What is wanted here is its fixed-up extract, which has its own bytes there again.";
 
-fn json<'a>(alloc: Global) -> Arg<'a> {
+fn number<'a>(alloc: Global, id: &'a str) -> Arg<'a>
+    ensures { IsRead (number_rule id.entry.now) result }
+{
+    Arg::new(alloc, id)
+        .long(id)
+        .value_name("N")
+        .value_parser(value_parser!(u64))
+}
+
+fn json<'a>(alloc: Global) -> Arg<'a>
+    ensures { IsRead json_rule result }
+{
     Arg::new(alloc, "json")
         .long("json")
         .action(ArgAction::SetTrue)
         .help("Write an object of JSON for each line")
 }
 
-fn tables<'a>(alloc: Global) -> Arg<'a> {
+fn tables<'a>(alloc: Global) -> Arg<'a>
+    ensures { IsRead tables_rule result }
+{
     Arg::new(alloc, INPUTS)
         .value_name("TABLE")
         .action(ArgAction::Append)
@@ -29,12 +45,12 @@ fn tables<'a>(alloc: Global) -> Arg<'a> {
         .help("Tables of records; - is standard input, as is none where something is piped in")
 }
 
-fn list<'a>(alloc: Global) -> Result<Command<'a>, AllocError> {
-    let base = Arg::new(alloc, "base")
-        .long("base")
-        .value_name("N")
-        .value_parser(value_parser!(u64))
-        .help("List the record with number N, where it is not the base row that is wanted");
+fn list<'a>(alloc: Global) -> Result<Command<'a>, AllocError>
+    ensures { IfOk result (Is (leaf list_shape)) }
+{
+    let base = number(alloc, "base").help(
+        "List the record with number N, where it is not the base row that is wanted",
+    );
     Command::new(alloc, "list")
         .about("List the attributes of a table's base record, with their parts")
         .arg(base)?
@@ -42,19 +58,21 @@ fn list<'a>(alloc: Global) -> Result<Command<'a>, AllocError> {
         .arg(tables(alloc))
 }
 
-fn rows<'a>(alloc: Global) -> Result<Command<'a>, AllocError> {
+fn rows<'a>(alloc: Global) -> Result<Command<'a>, AllocError>
+    ensures { IfOk result (Is (leaf rows_shape)) }
+{
     Command::new(alloc, "rows")
         .about("Tell what a table holds: each row's record number, place and state")
         .arg(json(alloc))?
         .arg(tables(alloc))
 }
 
-fn one_record<'a>(alloc: Global) -> Result<Command<'a>, AllocError> {
-    let number = Arg::new(alloc, "number")
-        .long("number")
-        .value_name("N")
-        .value_parser(value_parser!(u64))
-        .help("The record's number, which its lines name; 0 where it is left out");
+fn one_record<'a>(alloc: Global) -> Result<Command<'a>, AllocError>
+    ensures { IfOk result (Is (leaf record_shape)) }
+{
+    let number = number(alloc, "number").help(
+        "The record's number, which its lines name; 0 where it is left out",
+    );
     let file = Arg::new(alloc, INPUTS).value_name("FILE").help(
         "One fixed-up record; - is standard input, as is none where something is piped in",
     );
@@ -66,7 +84,9 @@ fn one_record<'a>(alloc: Global) -> Result<Command<'a>, AllocError> {
         .arg(file)
 }
 
-fn explain<'a>(alloc: Global) -> Result<Command<'a>, AllocError> {
+fn explain<'a>(alloc: Global) -> Result<Command<'a>, AllocError>
+    ensures { IfOk result (Is (leaf explain_shape)) }
+{
     let number = Arg::new(alloc, "number")
         .value_name("N")
         .required(true)
@@ -78,7 +98,9 @@ fn explain<'a>(alloc: Global) -> Result<Command<'a>, AllocError> {
 }
 
 /// The subcommands, with their options.
-pub fn command<'a>(alloc: Global) -> Result<Command<'a>, AllocError> {
+pub fn command<'a>(alloc: Global) -> Result<Command<'a>, AllocError>
+    ensures { IfOk result (Is command_line) }
+{
     Command::new(alloc, "nomutanku")
         .version("2.0.0")
         .about("Reads NTFS file records")

@@ -1,4 +1,6 @@
 //! How far an input is read, told on standard error while it takes long.
+ghost use Rattle.std.specs.Prelude.{◌≡◌, ◌+◌, ◌≤◌, ◌⊎◌, false, None};
+ghost use Rattle.std.specs.Time.{instant_nanos};
 
 use command::Shown;
 use std::io;
@@ -21,7 +23,12 @@ pub struct Watched<'a, T, R> {
 }
 
 impl<'a, T: Eprint + Clock + Drop, R: Read + Drop> Watched<'a, T, R> {
-    pub fn new(rt: T, input: R, name: &'a str, watched: bool) -> Watched<'a, T, R> {
+    /// A reader that has read nothing so far.
+    pub fn new(rt: T, input: R, name: &'a str, watched: bool) -> Watched<'a, T, R>
+        ensures parts { (result.rt ≡ rt) × (result.input ≡ input) × (result.name ≡ name.entry) }
+        ensures read { result.read ≡ 0 }
+        ensures unwatched { watched ≡ false → result.told ≡ None }
+    {
         let told = if watched {
             Instant::now(&rt).ok()
         } else {
@@ -38,7 +45,9 @@ impl<'a, T: Eprint + Clock + Drop, R: Read + Drop> Watched<'a, T, R> {
 }
 
 /// Tells how far it is where a second has gone by since it was last told, and gives when it was last told.
-fn tell(rt: &(impl Eprint + Clock), name: &str, read: u64, told: Instant) -> Instant {
+fn tell(rt: &(impl Eprint + Clock), name: &str, read: u64, told: Instant) -> Instant
+    ensures { (result ≡ told) ⊎ (instant_nanos told + 1000000000 ≤ instant_nanos result) }
+{
     let Ok(now) = Instant::now(rt) else {
         return told;
     };

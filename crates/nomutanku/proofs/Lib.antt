@@ -1,0 +1,4 @@
+mod Causes
+mod CommandLine
+mod Told
+mod Words

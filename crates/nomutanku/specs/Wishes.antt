@@ -1,0 +1,48 @@
+-- What the words behind a subcommand ask for.
+use Rattle.std.specs.Prelude.{ℕ, ◌≡◌, ◌≢◌, ◌<◌, ◌^◌, List, Option, Some, None, codes, option_map, unwrap_or}
+use Rattle.std.specs.Str.Parse.{IsNumeral, digits_value, without_leading_plus}
+use Rattle.clap.specs.Words.{found_of, one_text}
+use Rattle.clap.specs.declared.parser.matches.ArgMatches.{ArgMatches}
+use Rattle.command.specs.declared.asked.Asked.{Asked}
+use Rattle.command.specs.declared.asked.Asked.TheVariants.{Listing, Rows, Record}
+use Rattle.report.specs.declared.form.Form.{Form}
+use Rattle.report.specs.declared.form.Form.TheVariants as form
+use Rattle.nomutanku.specs.declared.inputs.Wish.{Wish}
+
+-- the value of the option with an id, where it has one
+abbrev pub value_of : ArgMatches → List ℕ → Option (List ℕ)
+value_of options id = one_text (found_of options) id
+
+-- a decimal number below 2 ^ 64
+abbrev pub IsNumber : List ℕ → Type 0
+IsNumber t =
+    IsNumeral 10 (without_leading_plus t) × (digits_value 10 (without_leading_plus t) < 2 ^ 64)
+
+-- what a value says as a number; none where there is none
+abbrev pub Counts : Option (List ℕ) → Option ℕ → Type 0
+Counts None n = n ≡ None
+Counts (Some t) (Some n) = IsNumber t × (n ≡ digits_value 10 (without_leading_plus t))
+Counts (Some t) None = IsNumber t → ⊥
+
+-- `--json` is `true` where it is given, and `false` or nothing where it is not
+abbrev pub Forms : Option (List ℕ) → Form → Type 0
+Forms value f =
+    (value ≡ None → f ≡ form.Text)
+    × (value ≡ Some (codes "true") → f ≡ form.Json)
+    × (value ≡ Some (codes "false") → f ≡ form.Text)
+
+-- the subcommand's name asks for this, with its options
+abbrev pub Asks : List ℕ → ArgMatches → Asked → Type 0
+Asks name options (Listing wanted) =
+    (name ≡ codes "list") × Counts (value_of options (codes "base")) (option_map (λ n. n.0) wanted)
+Asks name options Rows = name ≡ codes "rows"
+Asks name options (Record n) =
+    (name ≡ codes "record")
+    × ((given : Option ℕ) × Counts (value_of options (codes "number")) given × (n.0 ≡ unwrap_or given 0))
+
+-- what is asked of each input, in which form; nothing by a name of another kind
+abbrev pub Wishes : List ℕ → ArgMatches → Option Wish → Type 0
+Wishes name options (Some wish) =
+    Asks name options wish.asked × Forms (value_of options (codes "json")) wish.form
+Wishes name options None =
+    (name ≢ codes "list") × (name ≢ codes "rows") × (name ≢ codes "record")
