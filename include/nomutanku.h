@@ -29,7 +29,7 @@ struct nomutanku_filled {
 };
 
 /*
- * Lists a table: what its base record's attributes are, with their names, values and parts.
+ * Lists a table: what its base record's attributes are, with their names, values, parts and cluster runs.
  *
  * table, size   the table's bytes, as docs/RULES.md, section 10, lays them out. Any bytes may be handed in, and any
  *               number of them. They are read only.

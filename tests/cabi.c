@@ -14,6 +14,9 @@
 
 enum { DIFFERS = 1, NOTHING_COMPARED = 2 };
 
+/* In how many places a listing is cut at most, behind a line each: more would take long where a tool looks on. */
+enum { MOST_CUTS = 1000 };
+
 /* What stands around a buffer and in it before the call: no byte of a listing. */
 enum { BLANK = 0xA5, MARGIN = 64 };
 
@@ -124,6 +127,29 @@ static bool compare(const char *name, struct bytes table, struct bytes listing, 
     return filled.more;
 }
 
+static size_t count_lines(struct bytes listing)
+{
+    size_t lines = 0;
+    for (size_t at = 0; at < listing.size; at = line_end(listing, at))
+        lines++;
+    return lines;
+}
+
+/*
+ * Two calls for each line, or for some of them where they are many: a buffer that has a byte too few for the line, and
+ * one that has just room. Counts the calls, and those with more to come.
+ */
+static void cut_at_lines(const char *name, struct bytes table, struct bytes listing, size_t *calls, size_t *cut)
+{
+    size_t step = count_lines(listing) / MOST_CUTS + 1;
+    for (size_t at = 0, k = 0; at < listing.size; at = line_end(listing, at), k++)
+        if (k % step == 0) {
+            *cut += compare(name, table, listing, at + NOMUTANKU_MOST_LINE - 1);
+            *cut += compare(name, table, listing, at + NOMUTANKU_MOST_LINE);
+            *calls += 2;
+        }
+}
+
 int main(int count, char **names)
 {
     size_t calls = 0, cut = 0, pairs = 0;
@@ -138,6 +164,7 @@ int main(int count, char **names)
             cut += compare(names[k], table, listing, rooms[i]);
             calls++;
         }
+        cut_at_lines(names[k], table, listing, &calls, &cut);
         free(table.at);
         free(listing.at);
         pairs++;

@@ -18,7 +18,8 @@ import tempfile
 import time
 
 import listing_cases
-from lib import programs, running, suite
+import runs
+from lib import programs, random_runs, running, suite
 from lib.reading.listing import MOST
 from lib.reading.listing import listing as listing_read
 from lib.running import read
@@ -51,6 +52,7 @@ NEEDED = {
     *("value refused %d" % n for n in (7, 10, 11, 12)),
     *("value parts 0 refused %d" % n for n in (7, 12)),
     *("value parts 1 refused %d" % n for n in (2, 3, 4, 5, 6, 7, 12, 14, 15, 16, 17, 18, 19)),
+    *("run refused %d" % n for n in (23, 24, 25, 26)),
 }
 NEVER = {"stopped %d" % n for n in (1, 8, 9, 12, 19, 20, 21, 22)}
 
@@ -192,6 +194,12 @@ def test_a_difference_is_noticed(test):
         b"", WHOLE[:-1], WHOLE + b"\n", WHOLE + b"end reads 2\n", WHOLE[WHOLE.index(b"\n") + 1:],
         WHOLE.replace(b"\n", b"\r\n"), WHOLE.replace(b" ", b"  ")):
         assert difference(WHOLE, wrong) and difference(wrong, WHOLE), wrong
+    # where the lines by hand are all, one more is noticed too
+    case = next(case for case in listing_cases.cases() if case.name == "runs-hole")
+    listing = listing_read(case.text)
+    assert case.whole and not listing_cases.missing(case, listing)
+    for old, new in ((b"hole 8\n", b""), (b"hole 8\n", b"hole 8\nhole 8\n"), (b"hole 8\n", b"hole 8\nrun 1 1\n")):
+        assert listing_cases.missing(case, listing.replace(old, new)), new
     test.notices(test.run(input=listing_cases.WHOLE))
 
 
@@ -218,6 +226,52 @@ def test_a_lost_case_is_noticed(test):
     kept(copy)
 
 
+# Runs.
+
+def lines_under(case):
+    """The lines of the runs of a case of tests/runs.py, by hand."""
+    for start, length in case.runs:
+        yield "hole %d" % length if start is None else "run %d %d" % (start, length)
+    if case.refused:
+        yield "run refused %d" % case.refused
+
+
+def hold_runs(test, case):
+    """The program on the run bytes of a case, as a value, as that of a second attribute, and as a part."""
+    count, size = len(case.text), 512
+    held = listing_cases.running(case.text.hex())
+    value = "name 0 0 value runs %d %d size 4000"
+    # behind the list, which has 56 bytes, the same runs again; then they begin anew in the next attribute
+    listed = listing_cases.of(listing_cases.LISTED, held, held, others=[[held]], size=size)
+    first, second = 56 + 56, 56 + 56 + len(held)
+    expected = [
+        "record 40 size %d" % size, "attr 41 56 128 %d 1 name 0 0 value parts 1 size 4000" % len(held),
+        "part 41 56 0 120 %d" % count, *lines_under(case),
+        *(line for at in (first, second) for line in (
+            "attr 40 %d 128 %d 1 %s" % (at, len(held), value % (at + 64, count)), *lines_under(case))),
+        "end reads 7",
+    ]
+    test.same((test.on_pipe(listed),), "".join(line + "\n" for line in expected).encode())
+
+
+def test_the_cases_of_runs(test):
+    """Each case of tests/runs.py, whose runs stand there by hand: under a part, and under two values."""
+    test.each(lambda case: hold_runs(test, case), runs.CASES)
+    print("listing: %d cases of run bytes" % len(runs.CASES))
+
+
+def test_the_most_lines(test):
+    """The longest listing that we found for a base record of 4,096 bytes: as many lines as its formula says."""
+    table, count = listing_cases.most_lines()
+    expected = listing_read(table)
+    assert expected.count(b"\n") == count > 300_000
+    assert expected.count(b"\nhole ") == listing_cases.MOST_ENTRIES * listing_cases.MOST_HOLES
+    # the list, each entry with its attribute, twice, and but for the last the next entry, which ends the parts
+    assert last_line(expected) == b"end reads %d" % (5 * listing_cases.MOST_ENTRIES)
+    stop_at([("the most lines", d) for d in [difference(expected, test.on(table))] if d], 1)
+    print("listing: %d lines of %d bytes for a table of %d bytes" % (count, len(expected), len(table)))
+
+
 # Random and damaged tables.
 
 def hold_random(test, k, text):
@@ -236,7 +290,8 @@ def test_random_tables(test):
     real = [all_kept()[name][0] for name in (*listing_cases.VOLUMES, *listing_cases.OTHERS)]
     tables = list(listing_cases.random_tables(RANDOM, real, random.Random(SEED)))
     seen, ended = set(), 0
-    for expected in test.each(lambda pair: hold_random(test, *pair), enumerate(tables)):
+    found = test.each(lambda pair: hold_random(test, *pair), enumerate(tables))
+    for expected in found:
         seen.update(listing_cases.without_number(word) for word in listing_cases.refusals(expected.decode("ascii")))
         ended += expected.split(b"\n")[-2].startswith(b"end ")
     wanted = {listing_cases.without_number(word) for word in NEEDED}
@@ -245,6 +300,7 @@ def test_random_tables(test):
         sys.exit("refusals that no random table has: %s" % sorted(missing))
     assert ended > RANDOM // 8, ended
     print("listing: %d random and damaged tables of seed %d, %d of them to the end" % (RANDOM, SEED, ended))
+    print("runs: %s" % random_runs.each_kind(found, RANDOM // 80))
 
 
 def agree(*fields):

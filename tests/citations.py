@@ -96,7 +96,7 @@ def self_test(known):
     good = "-- RULES 4.2 and 4.3: under 16 bytes left (RULES 5), docs/RULES.md\nf = le 4 s 0x01 + 1.01\n"
     assert faults(good, known) == []
     for wrong, line in (
-        (good + "-- RULES 21", 3),
+        (good + "-- RULES 99", 3),
         (good + "-- RULES 4.99", 3),
         (good + "-- RULES 4 and 99", 3),
     ):
@@ -107,7 +107,7 @@ def self_test(known):
     assert link_faults("docs/A.md", links) == [(1, "no file docs/RULES.md")]
     assert name_faults("`a::b::c` `a::D` `std::x` `docs/RULES.md` `crates/fields`", {"a": "pub fn c() struct D"}) == []
     assert name_faults("`a::gone`\n`docs/GONE.md`", {"a": "fn c"}) == [(1, "no a::gone"), (2, "no path docs/GONE.md")]
-    assert faults("// RULES 21\n", known) != []
+    assert faults("// RULES 99\n", known) != []
 
 
 def main():

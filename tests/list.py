@@ -4,6 +4,7 @@ builds when.
 What the program decides is tested in tests/nomutanku_*.py. Here it is asked by way of ./list and must answer the same;
 where another program or another `rt` is needed, in a small copy of the repository (tests/lib/trees.py).
 """
+import itertools
 import os
 import re
 import shutil
@@ -83,12 +84,27 @@ def test_handed_on(test):
     test.same(run("-", "-", input=read(case("parts-2")))[:2], 2, expected)
 
 
+# what stands in a page for runs that it leaves out
+LEFT_OUT = ".."
+
+
+def shown_of(lines):
+    """These lines as a page shows them: of many runs under one line the first two, and that more are left out."""
+    shown = []
+    for under, some in itertools.groupby(lines, lambda line: line.startswith(("run ", "hole "))):
+        some = list(some)
+        shown += [*some[:2], LEFT_OUT] if under and len(some) > 3 else some
+    return shown
+
+
 def test_the_example(test):
     """The bundled example is listed by its option alone."""
     expected = listing_of(read(EXAMPLE))
     assert b" value parts 3 size " in expected and expected.count(b"\npart ") == 3
+    shown = shown_of(expected.decode().splitlines())
+    assert shown.count(LEFT_OUT) == 3
     for page in ("README.md", os.path.join("example", "README.md")):
-        assert b"".join(b"    " + line + b"\n" for line in expected.split(b"\n")[:-1]) in read(ROOT, page), page
+        assert "".join("    %s\n" % line for line in shown) in read(ROOT, page).decode(), page
     test.same(run("--example"), 0, expected, "")
     test.same(run(EXAMPLE), 0, expected, "")
     test.same(run("--example", input=read(case("stopped-3"))), 0, expected, "")

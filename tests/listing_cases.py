@@ -7,8 +7,9 @@ import struct
 from typing import NamedTuple
 
 from lib import building
-from lib.building import END, entry, head, list_of, record, table
+from lib.building import END, FILE, entry, head, list_of, record, table
 from lib.damaging import damaged
+from lib.random_runs import in_table
 from lib.random_tables import chained_table, hurt_outside, large_table, random_table
 
 BASE, OTHER, THIRD, FOURTH = 40, 41, 42, 43
@@ -18,13 +19,15 @@ FIELD_MOST = 2 ** 64 - 1
 
 
 class Case(NamedTuple):
-    """`last` is the listing's last line, `has` are lines that it must have, in this order; all are written by hand."""
+    """`last` is the listing's last line, `has` are lines that it must have, in this order, and where it is `whole` it
+    has no others; all are written by hand."""
 
     name: str
     text: bytes
     about: str
     last: str
     has: tuple = ()
+    whole: bool = False
 
 
 # Real volumes whose tables stand in tests/cases; those of tests/volumes are listed too, and stay where they are.
@@ -40,9 +43,16 @@ OTHERS = (
 
 
 def stream(instance=1, length=64, runs=64, lowest=0, size=4000, ty=0x80, units=0, name=0):
-    """A non-resident attribute. What does not fit into its length is left off."""
+    """A non-resident attribute. What does not fit into its length is left off. Its run bytes, where it has some, are
+    11 11 11 and so on: runs of 17 clusters, each 17 behind the start of the last one."""
     return building.non_resident(
         ty, instance, length, lowest, runs, size=size, fill=b"\x11", cut=True, units=units, name=name)
+
+
+def running(text, instance=1, **more):
+    """A non-resident attribute with these run bytes, in hex."""
+    inside = bytes.fromhex(text)
+    return building.non_resident(0x80, instance, 64 + len(inside), inside=inside, **more)
 
 
 def plain(instance=0, length=24, count=0, value=24, ty=0x10, units=0, name=0):
@@ -131,7 +141,9 @@ def table_limits():
             "directory-%d" % at, text.ljust(32, b"\0") + record(64, first=56), "directory offset %d" % at, last)
     most = record(4096, FRONT, stream(2, 4000, 96, size=7))
     yield Case("size-4096", table({BASE: most}), "the largest records", "end reads 2", (
-        "record 40 size 4096", "attr 40 80 128 4000 2 name 0 0 value runs 176 3904 size 7"))
+        "record 40 size 4096", "attr 40 80 128 4000 2 name 0 0 value runs 176 3904 size 7",
+        # 1,301 runs in 3,904 bytes, and one byte
+        "run 17 17", "run 22100 17", "run 22117 17", "run refused 24"))
     # rows may lie over each other: all have one record
     for count, last in ((4096, "end reads 1"), (4097, REFUSED)):
         at = 20 + 12 * count
@@ -269,15 +281,15 @@ def walks_along_lists():
 AFTER = plain(5)
 
 
-def one(name, attribute, about, ended, **more):
-    """A case of an attribute at 56 and one behind it."""
+def one(name, attribute, about, ended, *under, **more):
+    """A case of an attribute at 56, with these lines under its own, and one behind it."""
     at = 56 + len(attribute)
     a = struct.unpack_from("<IIBBHHH", attribute)
     return Case(
         name, of(attribute, AFTER, **more), about, "end reads 2",
         (
-            HEADER, "attr 40 56 %d %d %d %s" % (a[0], a[1], a[6], ended),
-            "attr 40 %d 16 24 5 name 0 0 value resident %d 0" % (at, at + 24)))
+            HEADER, "attr 40 56 %d %d %d %s" % (a[0], a[1], a[6], ended), *under,
+            "attr 40 %d 16 24 5 name 0 0 value resident %d 0" % (at, at + 24)), whole=True)
 
 
 def names():
@@ -312,7 +324,9 @@ def values():
         "value-over", plain(1, 32, 32, 0), "a value over the attribute's own header", "name 0 0 value resident 56 32")
     yield one("value-12", stream(1, 64, 65), "runs offset past the length", "name 0 0 value refused 12")
     yield one("value-runs-0", stream(1, 64, 64), "no runs", "name 0 0 value runs 120 0 size 4000")
-    yield one("value-runs", stream(1, 72, 64, size=0), "runs of 8 bytes", "name 0 0 value runs 120 8 size 0")
+    yield one(
+        "value-runs", stream(1, 72, 64, size=0), "runs of 8 bytes", "name 0 0 value runs 120 8 size 0",
+        "run 17 17", "run 34 17", "run refused 24")
     yield one(
         "both-refused", stream(1, 64, 0xFFFF, units=1, name=0xFFFF), "name and value refused",
         "name refused 8 value refused 12")
@@ -334,6 +348,98 @@ def looked_up():
             "name-%d-lookup" % number, of(list_of(to()), AFTER, others=[[stream(units=1, name=name)]]),
             "%d in a record looked up" % number, "end reads 6",
             ("attr 41 56 128 64 1 name refused %d value parts 1 size 4000" % number, "part 41 56 0 120 0"))
+
+
+# reads: the list 1, entry and attribute 2; parts: entry and attribute 2, then what is said below; then the list's other
+# entries are passed over, 1 each, and the attribute behind it is 1
+BEHIND = ("attr 40 136 16 24 5 name 0 0 value resident 160 0",)
+TWO = [to(), to(THIRD)]
+
+# run bytes: a run of 5 clusters from 10 on; and how runs end that are refused, by its number
+RUN = "11 05 0A"
+BAD = {23: "10 01", 24: "11 01", 25: "11 00 01", 26: "11 01 80"}
+
+
+def with_runs(name, text, about, *under):
+    """A case of a value with these run bytes."""
+    count = len(bytes.fromhex(text))
+    return one(name, running(text), about, "name 0 0 value runs 120 %d size 4000" % count, *under)
+
+
+def runs():
+    """The runs of a value, and what refuses them; the walk goes on behind that."""
+    yield with_runs(
+        "runs-hole", RUN + "01 08 11 03 02 00 11 01 01", "a hole leaves the last start; a zero ends the runs",
+        "run 10 5", "hole 8", "run 12 3")
+    yield with_runs(
+        "runs-no-hole", RUN + "11 03 00 11 02 F6", "a distance of 0 that takes a byte is no hole; one below 0",
+        "run 10 5", "run 10 3", "run 0 2")
+    yield with_runs("runs-none", "00" + RUN, "a zero in front of the first run: none")
+    for number, bad in BAD.items():
+        yield with_runs("runs-0-refused-%d" % number, bad, "%d in the first run" % number, "run refused %d" % number)
+        yield with_runs(
+            "runs-2-refused-%d" % number, RUN + "01 08" + bad, "%d behind a run and a hole" % number, "run 10 5",
+            "hole 8", "run refused %d" % number)
+
+
+# the most that a start, and the sum of lengths, may be, and the same in the bytes of a run
+RUN_MOST, RUN_MOST_BYTES = 2 ** 63 - 1, "FF FF FF FF FF FF FF 7F"
+
+
+def runs_of_any_size():
+    """The largest numbers of a run, and one above."""
+    most = "run %d %d" % (RUN_MOST, RUN_MOST)
+    yield with_runs(
+        "runs-most", "88" + RUN_MOST_BYTES + RUN_MOST_BYTES, "the longest line of a run", most)
+    yield with_runs("runs-most-hole", "08" + RUN_MOST_BYTES, "the longest line of a hole", "hole %d" % RUN_MOST)
+    yield with_runs(
+        "runs-sum", "88" + RUN_MOST_BYTES + RUN_MOST_BYTES + "01 01", "a hole more than the lengths may be together",
+        most, "run refused 26")
+    yield with_runs(
+        "runs-start", "81 05" + RUN_MOST_BYTES + "11 01 01", "a start above the largest", "run %d 5" % RUN_MOST,
+        "run refused 26")
+
+
+def ran(name, about, reads, first, second, ended, *under, list_of_two=TWO):
+    """A case of an item whose first part is in 41 and whose next entry leads to 42; nothing but these lines, and
+    an attribute behind the list."""
+    return Case(
+        name, of(list_of(*list_of_two), AFTER, others=[[running(first)], second]), about, "end reads %d" % reads,
+        (HEADER, "attr 41 56 128 %d 1 name 0 0 value parts %s" % (64 + len(bytes.fromhex(first)), ended), *under,
+         *BEHIND), whole=True)
+
+
+def runs_of_parts():
+    """The runs of parts: each part begins anew, whatever came before it."""
+    # 42 has an attribute in front of the part, which is one read more
+    both = "2 size 4000"
+    for number, bad in BAD.items():
+        yield ran(
+            "runs-parts-refused-%d" % number, "%d in the first part's runs; those of the second begin anew" % number,
+            10, RUN + bad, [plain(), running("11 03 02")], both, "part 41 56 0 120 %d" % len(bytes.fromhex(RUN + bad)),
+            "run 10 5", "run refused %d" % number, "part 42 80 0 144 3", "run 2 3")
+    yield ran(
+        "runs-parts-anew", "neither the last start nor the sum goes on in the next part", 10, "81 05" + RUN_MOST_BYTES,
+        [plain(), running("08" + RUN_MOST_BYTES + "00")], both, "part 41 56 0 120 10", "run %d 5" % RUN_MOST,
+        "part 42 80 0 144 10", "hole %d" % RUN_MOST)
+    yield ran(
+        "runs-parts-19", "the second part is refused; the first one's runs are listed", 9, RUN + "01 08",
+        [plain(1, ty=0x80)], "1 refused 19", "part 41 56 0 120 5", "run 10 5", "hole 8")
+    yield ran(
+        "runs-parts-both", "the first one's runs are refused, and then the second part", 9, RUN + BAD[25],
+        [plain(1, ty=0x80)], "1 refused 19", "part 41 56 0 120 6", "run 10 5", "run refused 25")
+    # the record of 42 is read nowhere
+    yield ran(
+        "runs-parts-again", "two parts of one attribute: its runs twice", 9, RUN, [plain()], both,
+        "part 41 56 0 120 3", "run 10 5", "part 41 56 0 120 3", "run 10 5", list_of_two=[to(), to()])
+    yield Case(
+        "runs-base", of(
+            list_of(to(), to(BASE)), running("11 06 07"), others=[[running("01 04")]]),
+        "a part in the base record has its runs there", "end reads 10",
+        (
+            HEADER, "attr 41 56 128 66 1 name 0 0 value parts 2 size 4000", "part 41 56 0 120 2", "hole 4",
+            "part 40 136 0 200 3", "run 7 6", "attr 40 136 128 67 1 name 0 0 value runs 200 3 size 4000", "run 7 6"),
+        whole=True)
 
 
 # the first part in 41, and the line of its item but for how it ends
@@ -399,12 +505,6 @@ def parts_behind():
         "the VCN is the attribute's own, not the entry's", "end reads 5", ("part 41 56 78 120 0",))
 
 
-# reads: the list 1, entry and attribute 2; parts: entry and attribute 2, then what is said below; then the list's other
-# entries are passed over, 1 each, and the attribute behind it is 1
-BEHIND = ("attr 40 136 16 24 5 name 0 0 value resident 160 0",)
-TWO = [to(), to(THIRD)]
-
-
 def parts_refused():
     """Parts that are refused in the record that an entry leads to."""
     # nothing but 7 and 12 can refuse the first part: the walk has just looked it up and found it, non-resident
@@ -453,6 +553,52 @@ def parts_refused_by_entries():
         17, "17", "the table lacks the third part's record", "end reads 11", [to(), to(), to(FOURTH)], count=2)
 
 
+# as many entries as a list of a record of 4,096 bytes can have (tests/cases/README.md)
+MOST_ENTRIES = 156
+
+
+def longest_list(entries):
+    """A record of 4,096 bytes whose one attribute is a list of so many entries. It stands at 11, over the record's own
+    header; bytes 20 and 21, its offset, fall on the list's name fields."""
+    text = bytearray(record(4096))
+    listed = struct.pack("<IIBBHHHIHH", 0x20, 4085, 0, 11, 0, 0, 9, 4056, 29, 0)
+    text[11:11 + len(listed)] = listed
+    text[20:22] = struct.pack("<H", 11)
+    text[40:4096] = b"".join(entries)
+    assert len(text) == 4096
+    return bytes(text)
+
+
+# How many holes full_of_holes has: one of two bytes after another in 4,084 bytes, but for two of four bytes.
+MOST_HOLES = (4096 - 12 - 2 * 4) // 2 + 2
+
+
+def full_of_holes(k):
+    """(a record of 4,096 bytes that has nothing but as many holes as fit, the instance of its attribute; k tells such
+    records apart).
+
+    The attribute stands at 4, behind the word FILE, and its runs begin at its byte 8: 01 01 is a hole of one cluster,
+    and the header's fields are what holes make of them. Two of them may not be holes: the record's first attribute
+    offset, and the runs offset. A hole whose length has three bytes lies over each.
+    """
+    text = bytearray(struct.pack("<4sII", FILE, 0x80, 4092).ljust(4096, b"\1"))
+    # the instance's two bytes, and the first attribute offset
+    text[18:22] = struct.pack("<BBH", 3, k, 4)
+    # the runs offset, behind two bytes of a hole
+    text[34:38] = struct.pack("<BBH", 3, 1, 8)
+    return bytes(text), 3 + 256 * k
+
+
+def most_lines():
+    """(table, how many lines its listing has): the most that we found for a base record of 4,096 bytes. As many entries
+    as fit, each an item with one part, since the next one leads to another, and each part with as many runs as fit."""
+    held = [full_of_holes(k) for k in (1, 2)]
+    entries = [to(OTHER + k % 2, held[k % 2][1]) for k in range(MOST_ENTRIES)]
+    records = {OTHER + k: text for k, (text, _) in enumerate(held)}
+    # the first and the last line; and of each entry an item, a part, and its runs
+    return table({BASE: longest_list(entries), **records}), 2 + MOST_ENTRIES * (2 + MOST_HOLES)
+
+
 def most_parts():
     """The most parts of an item, and the most items with a part."""
     # 80 + 154 × 26 = 4,084: as many entries as fit behind an ordinary header. Entries of 41 and of 42 in turn.
@@ -463,16 +609,10 @@ def most_parts():
         "parts-154", of(list_of(*entries), size=4096, others=others), "as many parts as fit behind an ordinary header",
         "end reads 541",
         ("attr 41 56 128 64 1 name 0 0 value parts 154 size 4000", "part 41 56 1 120 0", "part 42 80 2 144 0"))
-    # The first attribute stands at 11, over the record's own header; bytes 20 and 21, its offset, fall on the list's
-    # name fields.
-    r = bytearray(record(4096))
-    listed = struct.pack("<IIBBHHHIHH", 0x20, 4085, 0, 11, 0, 0, 9, 4056, 29, 0)
-    r[11:11 + len(listed)] = listed
-    r[20:22] = struct.pack("<H", 11)
-    r[40:4096] = b"".join(to(OTHER + k % 2) for k in range(156))
     others = {OTHER + k: record(4096, *held) for k, held in enumerate(others)}
+    entries = [to(OTHER + k % 2) for k in range(MOST_ENTRIES)]
     yield Case(
-        "parts-156", table({BASE: bytes(r), **others}), "as many parts as fit at all", "end reads 548",
+        "parts-156", table({BASE: longest_list(entries), **others}), "as many parts as fit at all", "end reads 548",
         (
             "record 40 size 4096", "attr 41 56 128 64 1 name 0 0 value parts 156 size 4000", "part 41 56 1 120 0",
             "part 42 80 2 144 0"))
@@ -597,7 +737,7 @@ TYPES = (0x80, 0x80, 0x80, 0x80, 0x90, 0x100)
 def random_held(chance):
     """An attribute with a name, a value and sizes near the limits."""
     instance, ty = chance.randrange(3), chance.choice(TYPES)
-    length = chance.choice((16, 23, 24, 25, 32, 40, 62, 63, 64, 64, 65, 72, 80))
+    length = chance.choice((16, 23, 24, 25, 32, 40, 62, 63, 64, 64, 65, 72, 80, 88))
     units = chance.choice((0, 0, 1, 2, 4, 255))
     name = chance.choice(
         (0, 1, 16, 24, 64, length - 2 * units, length - 2 * units + 1, length - 1, length, length + 1, 0xFFFF)) % 65536
@@ -663,12 +803,18 @@ def random_tables(count, real, chance):
             text = large_table(chance)
         else:
             text = hurt_outside(chance)
-        yield bytes(text)
+        yield in_table(bytes(text), chance) if chance.random() < 0.75 else bytes(text)
 
 
 # What a listing refuses, in its own words.
 REFUSALS = re.compile(
-    "table refused 21|stopped [0-9]+|name refused [0-9]+|value refused [0-9]+|value parts [0-9]+ refused [0-9]+")
+    "table refused 21|stopped [0-9]+|name refused [0-9]+|value refused [0-9]+|value parts [0-9]+ refused [0-9]+|"
+    "run refused [0-9]+")
+
+
+def without_runs(lines):
+    """The lines of a listing but for those of runs."""
+    return [line for line in lines if not line.startswith(("run ", "hole "))]
 
 
 def refusals(listing):
@@ -681,15 +827,18 @@ def without_number(refusal):
 
 
 def missing(case, listing):
-    """The lines by hand that a listing lacks."""
+    """The lines by hand that a listing lacks; where they are all, those that differ."""
     lines = listing.decode("ascii").split("\n")[:-1]
+    if case.whole and lines != [*case.has, case.last]:
+        return sorted({*lines} ^ {*case.has, case.last}) or lines
     rest = iter(lines)
     return [line for line in case.has if line not in rest] + [case.last] * (lines[-1:] != [case.last])
 
 
 KINDS = (
     tables, table_limits, walks, walks_cut, walks_to_unknown_types, walks_to_lists, walks_along_lists, names, values,
-    looked_up, parts, parts_behind, parts_refused, parts_refused_by_entries, most_parts, longest_lines, most_records,
+    looked_up, runs, runs_of_any_size, runs_of_parts, parts, parts_behind, parts_refused, parts_refused_by_entries,
+    most_parts, longest_lines, most_records,
     most_reads,
 )
 

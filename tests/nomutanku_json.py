@@ -24,7 +24,7 @@ NUMBER = re.compile(r"\b(?:[A-Z]+|[0-9]+)\b")
 
 def rule():
     """(text, members) of each row of the table, as they stand there, with # for a number."""
-    section = read(RULES).decode().split("**18.11 ")[1].split("\n## ")[0]
+    section = read(RULES).decode().split("**18.11 ")[1].split("\n**")[0]
     for text, told in re.findall(r"^\| `(.*)` \| (.*) \|$", section, re.MULTILINE):
         yield NUMBER.sub("#", text), NUMBER.sub("#", told)
 
@@ -91,6 +91,24 @@ def told(line):
         return by_members.text_of_line(line)
     except (AssertionError, KeyError, ValueError):
         return None
+
+
+# the lines that runs have by hand
+RUN, HOLE = '{"line":"run","start":%d,"length":%d}', '{"line":"hole","length":%d}'
+RUN_REFUSED = '{"line":"run refused","refusal":%d}'
+RUN_LINES = ('{"line":"run', '{"line":"hole"')
+
+
+def test_runs(test):
+    """The lines of runs by hand: under values and under parts, with the largest numbers, and none."""
+    most = 2 ** 63 - 1
+    for name, lines in (
+        ("runs-hole", [RUN % (10, 5), HOLE % 8, RUN % (12, 3)]), ("runs-none", []),
+        ("runs-2-refused-24", [RUN % (10, 5), HOLE % 8, RUN_REFUSED % 24]),
+        ("runs-parts-refused-26", [RUN % (10, 5), RUN_REFUSED % 26, RUN % (2, 3)]),
+        ("runs-sum", [RUN % (most, most), RUN_REFUSED % 26]), ("runs-parts-19", [RUN % (10, 5), HOLE % 8])):
+        status, out, _ = test.run("list", "--json", case(name))
+        test.same((status, [line for line in out.decode().split("\n") if line.startswith(RUN_LINES)]), 0, lines)
 
 
 def test_headings(test):

@@ -7,7 +7,8 @@ import random
 import subprocess
 
 import cases
-from lib import inputs, programs, running, suite
+import listing_cases
+from lib import by_members, inputs, on_nomutanku, programs, random_runs, running, suite
 from lib.inputs import full_table
 from lib.on_nomutanku import REFUSED, Nomutanku, status_of, whole
 from lib.reading.listing import MOST
@@ -38,6 +39,14 @@ def test_kept_listings(test):
     print("%d tables of tests/cases and tests/volumes" % len(tables))
 
 
+def test_the_sample(test):
+    """What rt ci runs the command on is a table with runs, one that is refused and one from standard input; what it
+    must write then is what tests/make_cases writes."""
+    expected = b"".join(on_nomutanku.sample())
+    assert b"\nrun " in expected and b"\ntable -\n" in expected and REFUSED in expected
+    test.same((running.read(on_nomutanku.CRATE, "stdout"),), expected)
+
+
 def test_damaged_tables(test):
     """Of a damaged table, of a front of one and of a whole one, two programs and the second reading tell the same."""
     tables = [text for text, _ in inputs.tables(DAMAGED, random.Random(SEED))]
@@ -47,6 +56,7 @@ def test_damaged_tables(test):
     assert DAMAGED // 20 < refused < DAMAGED // 3 and long > DAMAGED // 10, (refused, long)
     print("%d damaged tables of seed %d, %d of them malformed, %d longer than the program listing takes"
           % (DAMAGED, SEED, refused, long))
+    print("runs: %s" % random_runs.each_kind(listings, DAMAGED // 100))
 
 
 def test_damaged_tables_by_number(test):
@@ -74,6 +84,18 @@ def test_a_table_of_any_size(test):
     test.by_standard_input("list", text, expected)
     expected = whole(text, 4095)
     test.same(test.on_file("list", text, "--base", "4095"), 0, expected)
+
+
+def test_the_most_lines(test):
+    """The longest listing that we found for a base record of 4,096 bytes, as text and in JSON."""
+    table, count = listing_cases.most_lines()
+    expected = whole(table)
+    assert expected.count(b"\n") == count
+    test.same(test.on_file("list", table), 0, expected)
+    status, out = test.on_file("list", table, "--json")
+    holes = listing_cases.MOST_ENTRIES * listing_cases.MOST_HOLES
+    test.same((status, out.count(b"\n"), out.count(b'{"line":"hole",')), 0, count, holes)
+    test.same((by_members.text_of(out),), expected)
 
 
 main = suite.of(Nomutanku, Nomutanku.finish)

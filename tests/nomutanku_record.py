@@ -4,7 +4,8 @@ import random
 
 import cases
 import listing_cases
-from lib import building, inputs, random_records, reading, suite
+import runs
+from lib import building, inputs, random_records, random_runs, reading, suite
 from lib.on_nomutanku import Nomutanku
 from lib.reading.single import single
 
@@ -65,11 +66,47 @@ def test_attributes_of_every_kind(test):
         b"attr 5 56 16 24 0 name 0 0 value resident 80 0\n"
         b"attr 5 80 32 56 1 name 0 0 value resident 104 26\n"
         b"attr 5 136 17 24 2 name 0 0 value resident 160 0\n"
-        b"attr 5 160 128 72 3 name 0 0 value runs 224 8 size 7\n"
+        b"attr 5 160 128 72 3 name 0 0 value runs 224 8 size 7\nrun refused 23\n"
         b"attr 5 232 32 64 4 name 0 0 value refused 12\n"
         b"attr 5 296 48 40 5 name 0 0 value refused 11\n"
         b"attr 5 336 48 24 6 name refused 8 value resident 360 0\n"
         b"end\n"))
+
+
+# a list that is not resident, an attribute of unknown type, one that has no run bytes, and one behind it
+HELD = (
+    building.non_resident(0x20, 1, 72, inside=bytes.fromhex("11 05 0A 01 08 11 01 02"), size=7),
+    building.non_resident(0x11, 2, 72, inside=bytes.fromhex("11 05 03 11 02 FC 00 00"), size=8),
+    building.non_resident(0x80, 3, 64, size=9),
+    building.non_resident(0x80, 4, 72, inside=bytes.fromhex("11 05 0A 21 01 00 FF 00"), size=10))
+
+
+def test_runs_of_every_kind(test):
+    """Any attribute that is not resident has its runs under it, each begins anew, and a refusal ends those of one."""
+    by_hand(test, building.record(512, *HELD, used=9, allocated=8), 5, (
+        b"record 5 size 512\nheader sequence 5 links 2 first 56 flags 1 used 9 allocated 8\n"
+        b"attr 5 56 32 72 1 name 0 0 value runs 120 8 size 7\nrun 10 5\nhole 8\nrun 12 1\n"
+        b"attr 5 128 17 72 2 name 0 0 value runs 192 8 size 8\nrun 3 5\nrun refused 26\n"
+        b"attr 5 200 128 64 3 name 0 0 value runs 264 0 size 9\n"
+        b"attr 5 264 128 72 4 name 0 0 value runs 328 8 size 10\nrun 10 5\nrun refused 26\n"
+        b"end\n"))
+
+
+def test_the_cases_of_runs(test):
+    """Each case of tests/runs.py, whose runs stand there by hand, is told under an attribute and again under the
+    next."""
+    def hold_case(case):
+        held, count = listing_cases.running(case.text.hex()), len(case.text)
+        under = "".join(line + "\n" for line in cases.lines_under(case))
+        attributes = "".join(
+            "attr 5 %d 128 %d 1 name 0 0 value runs %d %d size 4000\n%s" % (at, len(held), at + 64, count, under)
+            for at in (56, 56 + len(held)))
+        by_hand(test, building.record(512, held, held, used=9, allocated=8), 5, (
+            "record 5 size 512\nheader sequence 5 links 2 first 56 flags 1 used 9 allocated 8\n%send\n"
+            % attributes).encode())
+
+    test.each(hold_case, runs.CASES)
+    print("%d cases of run bytes" % len(runs.CASES))
 
 
 def test_ends(test):
@@ -128,6 +165,7 @@ def test_damaged_records(test):
         b"end", b"stopped 3", b"stopped 4", b"stopped 5", b"record refused 1", b"record refused 2")}
     assert sum(count.values()) == DAMAGED and min(count.values()) > DAMAGED // 200, count
     print("%d damaged records of seed %d: %s" % (DAMAGED, SEED, count))
+    print("runs: %s" % random_runs.each_kind(found, DAMAGED // 100))
 
 
 main = suite.of(Nomutanku, Nomutanku.finish)

@@ -15,7 +15,7 @@ USAGE_SAID = {
 }
 
 # the refusals there are (RULES 19)
-REFUSALS = range(1, 23)
+REFUSALS = range(1, 27)
 
 
 def test_a_difference_is_noticed(test):
@@ -241,7 +241,8 @@ def test_explanations(test):
     test.same((len({out.split(b": ", 1)[1] for _, out, _ in said}),), len(REFUSALS))
     test.same(said[12][1:], b"13: the attribute list is not resident\n", "")
     test.same(said[20][1:], b"21: the table is malformed\n", "")
-    for n in (0, 23, 256, 257 + 21, 2 ** 64 - 1):
+    test.same(said[24][1:], b"25: the run's length is 0\n", "")
+    for n in (0, 27, 256, 257 + 25, 2 ** 64 - 1):
         test.same(test.run("explain", str(n)), 64, b"", "nomutanku: there is no refusal %d\n" % n)
 
 

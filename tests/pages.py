@@ -12,7 +12,7 @@ from typing import NamedTuple
 
 import cases
 import listing_cases
-from lib import suite
+from lib import random_runs, suite
 from lib.asking import Asker, said_bytes
 from lib.question import LAST, ON_LISTINGS, question
 from lib.reading.listing import listing as listing_of
@@ -28,6 +28,9 @@ ROOMS = 3
 MOST_LINE = 256
 MOST_WRITE = 8_192
 MOST_TEXT = 32_768
+
+# real tables with hundreds of runs: of parts, of parts in front of a refusal, and of a value with as many holes
+WITH_RUNS = ("fragA-0066", "joinA-0173", "sparse4k-0077")
 
 # each way in which a text ends has to be met at least so often
 OFTEN = 100
@@ -101,6 +104,11 @@ def rooms_of(listing):
     })
 
 
+def ends_of_lines(listing):
+    """Where each line of a listing ends."""
+    return [at + 1 for at, byte in enumerate(listing) if byte == ord("\n")]
+
+
 def sample():
     """Questions of each kind about the whole case. rt ci runs the program on them."""
     listing = listing_cases.WHOLE_LISTING.encode()
@@ -111,8 +119,9 @@ def sample():
 def test_kept_tables(test):
     """Every kept table: the kept listing is a literal answer, which the second reading must give too."""
     tables = {**cases.kept(cases.FOLDER), **cases.kept(cases.OTHERS)}
-    # a writer must get one in more than two writes
-    assert 2 * MOST_WRITE < max(len(listing) for _, listing in tables.values()) <= MOST_TEXT
+    # a writer must get one in more than two writes, and none of all bytes that the program lends is enough for another
+    sizes = [len(listing) for _, listing in tables.values()]
+    assert any(2 * MOST_WRITE < size <= MOST_TEXT for size in sizes) and max(sizes) > MOST_TEXT
     for table, listing in tables.values():
         for room in rooms_of(listing):
             for kind in (PAGE, WRITTEN):
@@ -120,18 +129,42 @@ def test_kept_tables(test):
     print("%d kept tables" % len(tables))
 
 
+def cut_at_every_line(test, table, listing):
+    """Asks for pages that end behind each line of a table: the next one has a byte too few, and then just room. And
+    for what a writer gets that fails behind each line, or in it."""
+    for end in ends_of_lines(listing):
+        for room in (end + MOST_LINE - 1, end + MOST_LINE):
+            test.put_literal_question(answer(PAGE, listing, room), Question(PAGE, table, room))
+        for room in (end - 1, end):
+            test.put_literal_question(answer(WRITTEN, listing, room), Question(WRITTEN, table, room))
+
+
+def test_pages_cut_at_every_line(test):
+    """Every case of runs, and real tables with many: a page ends behind any line, also between the runs of one
+    attribute and in front of a refusal of theirs."""
+    tables = {**cases.kept(cases.FOLDER), **cases.kept(cases.OTHERS)}
+    chosen = [name for name in tables if name.startswith("runs-") or name in WITH_RUNS]
+    assert len(chosen) > 20 and set(WITH_RUNS) <= set(chosen)
+    for name in chosen:
+        cut_at_every_line(test, *tables[name])
+    met = random_runs.each_kind([tables[name][1] for name in chosen])
+    print("%d tables cut at every line, their runs: %s" % (len(chosen), met))
+
+
 def test_random_tables(test):
     """Random and damaged tables, with room on both sides of what their listing needs, and any other."""
     print("seed %d, %d random and damaged tables" % (SEED, RANDOM))
     tables, chance = {**cases.kept(cases.FOLDER), **cases.kept(cases.OTHERS)}, random.Random(SEED)
-    real = [tables[name][0] for name in (*listing_cases.VOLUMES, *listing_cases.OTHERS)]
+    real, listings = [tables[name][0] for name in (*listing_cases.VOLUMES, *listing_cases.OTHERS)], []
     for table in listing_cases.random_tables(RANDOM, real, chance):
         listing = listing_of(table)
+        listings.append(listing)
         least = least_room(listing)
         for room in (least - 1, least, *(chance.randrange(len(listing) + 2 * MOST_LINE) for _ in range(ROOMS))):
             test.put_question(Question(PAGE, table, room))
         for room in (len(listing), chance.randrange(len(listing)), MOST_TEXT):
             test.put_question(Question(WRITTEN, table, room))
+    print("runs: %s" % random_runs.each_kind(listings, OFTEN // 2))
 
 
 def ended(test):

@@ -24,10 +24,14 @@ const TURN: f64 = 60_000.0;
 
 struct Case {
     name: String,
+    /// The table that both list: it tells no run.
     table: Vec<u8>,
     volume: Volume,
     ntfs: Ntfs,
     reads: f64,
+    /// The table as it came, and how many lines of runs its listing has.
+    with_runs: Vec<u8>,
+    runs: f64,
 }
 
 /// The middle times of one listing: ours, the Rust's, and the Rust's from the table's bytes on.
@@ -41,6 +45,31 @@ fn apart(text: &[u8]) -> (String, f64) {
     (format!("{before}\n"), count.trim().parse().unwrap_or(0.0))
 }
 
+fn is_run(line: &str) -> bool {
+    line.starts_with("run ") || line.starts_with("hole ")
+}
+
+/// The record and the place of the run bytes that a line tells, if they are some: of a value, or of a part.
+fn told_at(line: &str) -> Option<(u64, usize)> {
+    let words: Vec<_> = line.split(' ').collect();
+    match words[..] {
+        ["part", record, _, _, at, bytes] | ["attr", record, .., "runs", at, bytes, "size", _] if bytes != "0" => {
+            Some((record.parse().unwrap(), at.parse().unwrap()))
+        }
+        _ => None,
+    }
+}
+
+/// The same table with a 0 in front of all run bytes that its listing tells. So no run is told: the Rust's listing has
+/// none, and what is compared is the walk.
+fn without_runs(table: &[u8], text: &str) -> Vec<u8> {
+    let mut quiet = table.to_vec();
+    for (record, at) in text.lines().filter_map(told_at) {
+        quiet[theirs::place_of(table, record) + at] = 0;
+    }
+    quiet
+}
+
 /// Why the Rust can't be held to a listing: it has no check 7, opens the list that 13 refuses, and has no table.
 fn beyond(text: &str) -> Option<&'static str> {
     let ends = [("refused 7\n", "7"), ("stopped 7\n", "7"), ("stopped 13\n", "13"), ("table refused 21\n", "21")];
@@ -50,16 +79,22 @@ fn beyond(text: &str) -> Option<&'static str> {
 /// A table to be timed, where both list it alike, or why it is left out. Any other difference ends the program.
 fn case(name: &str, table: Vec<u8>, out: &mut [u8], room: &mut Room) -> Result<Case, &'static str> {
     let end = ours::list(&table, out);
-    let (text, reads) = apart(&out[..end]);
+    let (text, _) = apart(&out[..end]);
     if let Some(why) = beyond(&text) {
         return Err(why);
     }
+    let (runs, others): (Vec<_>, Vec<_>) = text.lines().partition(|line| is_run(line));
+    let (with_runs, runs, others) = (table, runs.len() as f64, others.join("\n") + "\n");
+    let table = without_runs(&with_runs, &text);
+    let end = ours::list(&table, out);
+    let (text, reads) = apart(&out[..end]);
+    assert_eq!(text, others, "{name}: without its runs the listing is another");
     let mut volume = Volume::of(&table).expect("a table that passes 21");
     let ntfs = volume.ntfs();
     catch_unwind(AssertUnwindSafe(|| theirs::list(&ntfs, &mut volume, room))).map_err(|_| "panic")?;
     let told = String::from_utf8_lossy(room.out.told());
     assert_eq!(text, told, "{name}: ours and the Rust's listing differ");
-    Ok(Case { name: name.into(), table, volume, ntfs, reads })
+    Ok(Case { name: name.into(), table, volume, ntfs, reads, with_runs, runs })
 }
 
 fn real(folder: &str, out: &mut [u8], room: &mut Room) -> Vec<Case> {
@@ -162,6 +197,20 @@ fn report(cases: &[Case], times: &[Times], passed: Times) {
     row("all, in passes", cases.iter().map(|c| c.reads).sum(), passed);
 }
 
+/// What the lines of runs cost, which the Rust's listing has not: ours over the tables as they came.
+fn report_runs(cases: &[Case], times: &[Times], out: &mut [u8]) {
+    let mut all = vec![Vec::new(); cases.len()];
+    for _ in 0..ROUNDS {
+        for (c, t) in cases.iter().zip(&mut all) {
+            t.push(turn(|| { black_box(ours::list(black_box(&c.with_runs), black_box(&mut *out))); }));
+        }
+    }
+    let with: f64 = all.into_iter().map(middle).sum();
+    let without: f64 = times.iter().map(|t| t.0[0]).sum();
+    let lines: f64 = cases.iter().map(|c| c.runs).sum();
+    println!("\nwith their {lines} lines of runs: ours {with:.0} ns, {:.1} ns a line", (with - without) / lines);
+}
+
 /// What one read costs as records grow, then what a listing costs as rows do.
 fn report_made(out: &mut [u8], room: &mut Room) {
     let kinds: [(&str, fn(usize) -> Vec<u8>); 3] =
@@ -216,5 +265,6 @@ fn main() {
     let times = race(&mut cases, &mut out, &mut room);
     let passed = pass(&mut cases, &mut out, &mut room);
     report(&cases, &times, passed);
+    report_runs(&cases, &times, &mut out);
     report_made(&mut out, &mut room);
 }

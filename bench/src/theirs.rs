@@ -25,6 +25,14 @@ fn number(t: &[u8], at: usize, bytes: usize) -> u64 {
     t[at..at + bytes].iter().rev().fold(0, |n, b| n << 8 | *b as u64)
 }
 
+/// Where the record with a number stands in a table.
+pub fn place_of(t: &[u8], record: u64) -> usize {
+    let (count, directory) = (number(t, 0, 4), number(t, 8, 4));
+    let mut rows = (0..count).map(|i| (directory + 12 * i) as usize);
+    let row = rows.find(|row| number(t, *row, 8) == record).expect("a record of the table");
+    number(t, row + 8, 4) as usize
+}
+
 /// The crate reads the MFT's own record before each other one, to find where that one stands: here by one run over all
 /// records.
 fn mft_record(size: usize) -> Vec<u8> {

@@ -89,7 +89,7 @@ class Asker:
     def count_refusal(self, q, answer):
         """Counts the refusal that an answer tells, if it tells one."""
         if "refused " in answer:
-            given = self.refused(q, [int(n) for n in answer.split("refused ")[1].split(" ")[:3]])
+            given = self.refused(q, [int(n) for n in answer.split("refused ")[1].split()[:3]])
             self.refusals[given] = self.refusals.get(given, 0) + 1
 
     # Asking.

@@ -11,6 +11,9 @@ WHOLE = {
     "record": "{line} {number} size {size}",
     "header": "{line} sequence {sequence} links {links} first {first} flags {flags} used {used} allocated {allocated}",
     "part": "{line} {record} {offset} {vcn} {runs_offset} {runs_bytes}",
+    "run": "{line} {start} {length}",
+    "hole": "{line} {length}",
+    "run refused": "{line} {refusal}",
     "table refused": "{line} {refusal}",
     "record refused": "{line} {refusal}",
     # the heading of a table, which a listing itself has not

@@ -1,10 +1,13 @@
 """Inputs to the command: tables of every size and records of any length, most of them hurt."""
 import struct
 
-from lib import building, damaging, random_records, random_tables, volumes
+from lib import building, damaging, random_records, random_runs, random_tables, volumes
 
 # how many tables are made as they were from the first on, before those of other kinds come in turn
 FIRST = 300
+
+# how many of them get other run bytes
+OTHER_RUNS = 0.75
 
 # no record has more than 4,096 bytes, and an input may
 LONGEST_INPUT = 4200
@@ -58,6 +61,8 @@ def tables(count, chance):
     real = volumes.tables()
     for k in range(count):
         text = table_in_turn(k, real, chance)
+        if chance.random() < OTHER_RUNS:
+            text = random_runs.in_table(text, chance)
         yield text, numbers_asked(text, chance)
 
 
@@ -93,6 +98,8 @@ def records(count, chance):
     real = random_records.real_records()
     for k in range(count):
         text = record_in_turn(k, real, chance)
+        if chance.random() < OTHER_RUNS:
+            text = random_runs.in_record(text, chance)
         # any length: a front of it, or more behind it
         if chance.random() < 0.2:
             text = (text + building.PATTERN)[:chance.randrange(LONGEST_INPUT + 1)]

@@ -1,4 +1,5 @@
 """The command `nomutanku`, as built: what the files of tests on it share."""
+import os
 import re
 import tempfile
 
@@ -32,6 +33,19 @@ def status_of(text):
 def whole(table, wanted=None):
     """The listing of a table of any size."""
     return listing(table, wanted, ANY)
+
+
+# the command's crate, whose files args, stdin and data/ are what rt ci runs it on, and stdout what it then writes
+CRATE = os.path.join(programs.ROOT, "crates", "nomutanku")
+
+
+def sample():
+    """What it writes then: the listing of each table behind its name."""
+    command, *names = running.read(CRATE, "args").decode().split()
+    assert command == "list" and len(names) > 1
+    for name in names:
+        text = running.read(CRATE, "stdin") if name == "-" else running.read(CRATE, "data", name)
+        yield b"table %s\n%s" % (name.encode(), whole(text))
 
 
 class Nomutanku(running.Runner):

@@ -16,11 +16,12 @@ ROOT = os.path.dirname(TESTS)
 ASKED = "ask"
 
 
-def command(name):
-    """How a built program is run. Programs are for x86-64; on another machine the toolchain has an emulator."""
-    path = os.path.join(ROOT, "crates", name, "out", name)
+def command(name, folder=None):
+    """How a built program is run, that of this repository or the one in a folder. Programs are for x86-64; on another
+    machine the toolchain has an emulator."""
+    path = os.path.join(folder or os.path.join(ROOT, "crates", name, "out"), name)
     if not os.path.exists(path):
-        sys.exit("no crates/%s/out/%s: run `rt ci`, or `rt run` in crates/%s, first" % (name, name, name))
+        sys.exit("no %s: run `rt ci`, or `rt run` in crates/%s, first" % (os.path.relpath(path, ROOT), name))
     if platform.machine() == "x86_64":
         return [path]
     # `rt doc` prints a file of the toolchain's own folder: KIT/docs/START-HERE.md

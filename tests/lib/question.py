@@ -8,13 +8,13 @@ import functools
 import struct
 
 # Where the kinds of question of each layer begin: crates/ask/src/main.rt has them all.
-ON_RECORDS, ON_TABLES, ON_ITEMS, ON_PARTS, ON_LISTINGS = 0, 16, 23, 27, 30
+ON_RECORDS, ON_TABLES, ON_ITEMS, ON_PARTS, ON_LISTINGS, ON_RUNS = 0, 16, 23, 27, 30, 32
 
 # The numbers by their tags.
 TAGS = {
     name: tag for tag, name in enumerate((
         "number", "place", "wanted", "list", "list_from", "list_to", "key", "ty", "instance", "most", "record_bytes",
-        "table_bytes", "buffer",
+        "table_bytes", "buffer", "last", "sum", "run_bytes",
     ))
 }
 

@@ -4,6 +4,7 @@
 
 mod in_listing;
 mod in_record;
+mod in_runs;
 mod in_table;
 mod in_walk;
 mod numbers;
@@ -39,7 +40,7 @@ fn answer_on_record<W: Write>(out: &mut W, q: &Question<'_>) -> io::Result<()> {
     }
 }
 
-// Those on entries, tables, walks and listings. A kind that there is not has no answer.
+// Those on entries, tables, walks, listings and cluster runs. A kind that there is not has no answer.
 fn answer_on_file<W: Write>(out: &mut W, q: &Question<'_>) -> io::Result<()> {
     match q.kind {
         16 => line(out, &in_table::entry(q)),
@@ -58,6 +59,8 @@ fn answer_on_file<W: Write>(out: &mut W, q: &Question<'_>) -> io::Result<()> {
         29 => in_walk::walk(out, q, true),
         30 => in_listing::page(out, q),
         31 => in_listing::written(out, q),
+        32 => line(out, &in_runs::step(q)),
+        33 => in_runs::all(out, q),
         _ => Ok(()),
     }
 }

@@ -39,15 +39,22 @@ const TABLE_BYTES: usize = 88;
 
 const BUFFER: usize = 96;
 
-const NUMBERS: usize = 104;
+const LAST: usize = 104;
+
+const SUM: usize = 112;
+
+const RUN_BYTES: usize = 120;
+
+const NUMBERS: usize = 128;
 
 /// How many bytes the record and the table may have together.
 const ROOM: usize = 131_072;
 
 /// A question, for every call that there is: each reads what it needs. A state has the place as its raw place,
 /// the list and the key; `ty` and `instance` stand beside a key, since other calls ask for them too. `most` is
-/// how many calls a walk makes, or the room for parts; `buffer` the room for a listing's text. The record is, for
-/// an entry, the rest of a list. The kind is the byte that came: `main` has the kinds.
+/// how many calls a walk makes, or the room for parts; `buffer` the room for a listing's text. `last` and `sum` go
+/// from one run to the next, and `run_bytes` is how many bytes of a record hold runs. The record is, for an entry,
+/// the rest of a list, and for one run the run bytes. The kind is the byte that came: `main` has the kinds.
 #[derive(Clone, Copy)]
 pub struct Question<'a> {
     pub kind: u8,
@@ -60,6 +67,9 @@ pub struct Question<'a> {
     pub instance: u16,
     pub most: u16,
     pub buffer: usize,
+    pub last: u64,
+    pub sum: u64,
+    pub run_bytes: usize,
     pub record: &'a [u8],
     pub table: &'a [u8],
 }
@@ -84,6 +94,9 @@ impl<'a> Question<'a> {
             instance,
             most: u16_at(numbers, MOST),
             buffer: u64_at(numbers, BUFFER) as usize,
+            last: u64_at(numbers, LAST),
+            sum: u64_at(numbers, SUM),
+            run_bytes: u64_at(numbers, RUN_BYTES) as usize,
             record,
             table,
         }

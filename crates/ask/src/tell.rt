@@ -4,6 +4,7 @@ use items::{Item, Rest, State, Walked};
 use list::{Entry, Listed};
 use parts::Part;
 use record::{Attribute, FullHeader, RecordHeader, Span, Value, View};
+use runs::{Decoded, Run};
 use std::io;
 use std::io::Write;
 use table::TableHeader;
@@ -134,6 +135,23 @@ impl<'a> Tell for Value<'a> {
                 write!(out, "value runs {} {} {size}", v.from, v.bytes.len())
             }
         }
+    }
+}
+
+impl Tell for Run {
+    fn tell<W: Write>(&self, out: &mut W) -> io::Result<()> {
+        match self {
+            Run::Clusters { start, length } => write!(out, "run {} {length}", start.0),
+            Run::Hole { length } => write!(out, "hole {length}"),
+        }
+    }
+}
+
+impl Tell for Decoded {
+    fn tell<W: Write>(&self, out: &mut W) -> io::Result<()> {
+        self.answer.tell(out)?;
+        write!(out, " last {} sum {}", self.carried.last, self.carried.sum)?;
+        write!(out, " taken {}", self.taken)
     }
 }
 

@@ -1,5 +1,5 @@
 -- The lines of a listing follow its calls, and the last tells what these reported.
-use Rattle.std.proofs.Common.{ℕ, zero, suc, ◌+◌, ◌≤◌, ◌<◌, ◌≡◌, List, [], ◌∷◌, ◌++◌, map, length}
+use Rattle.std.proofs.Common.{ℕ, zero, suc, ◌+◌, ◌≤◌, ◌<◌, ◌≡◌, List, [], ◌∷◌, ◌++◌, flat_map, length}
 use Rattle.std.proofs.Common.{refl, sym, ap, subst, ◌∙◌, arith, append_assoc}
 use Rattle.std.proofs.lemmas.Bool.Decides.{nat_tests}
 use Rattle.std.specs.Prelude.{Option, Some, None, ltb}
@@ -21,7 +21,8 @@ use Rattle.items.proofs.Opened.{opened_in_lent}
 use Rattle.parts.specs.Parts.{parts_of}
 use Rattle.lines.specs.declared.line.Line.{Line}
 use Rattle.lines.specs.declared.line.Line.TheVariants as line
-use Rattle.lines.specs.Listing.{most_table, given_parts, item_line, lines_after, lines_run, walk_lines}
+use Rattle.lines.specs.Listing.{most_table, given_parts, item_line, item_runs, part_lines}
+use Rattle.lines.specs.Listing.{lines_after, lines_run, walk_lines}
 use Rattle.lines.specs.Listing.{opened_lines, base_lines, table_lines, checked_lines, listing_of}
 use Rattle.bound.specs.Listing.{called, reported, Listed, fresh, item}
 use Rattle.bound.specs.Printed.{Closes, Tells, Ended, count_of, end_of, Listable, Listing, refused, unopened}
@@ -98,8 +99,9 @@ module _ (s : List ℕ) (n : RecordNumber) (look : RecordNumber → Option (List
         (item k c read w i l e) (omega arith) in
         let o : c + reported s n look rooms w + length p.reads ≡ c + length ls.reads + length p.reads = omega arith in
         more _ _ (item_line room s n look i ∷ []) _
-        (more _ _ (map (λ p. line.Part p) (given_parts p)) _
-        (subst (λ (y : ℕ). Told (lines_run room s n look fuel y ls.left)) o t))
+        (more _ _ (item_runs room s n look i) _
+        (more _ _ (flat_map (part_lines s n look) (given_parts p)) _
+        (subst (λ (y : ℕ). Told (lines_run room s n look fuel y ls.left)) o t)))
     after fuel k c read w l h on ends e = ended_so v k c read w l
         (λ i q. let d = sym e ∙ q in absurd (cc)) ends e _ refl
     after fuel k c read w l h on (refuses r) e = ended_so v k c read w l (λ i q. let d = sym e ∙ q in absurd (cc))

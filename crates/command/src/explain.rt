@@ -5,7 +5,7 @@ ghost use Rattle.command.specs.Explain.{explained};
 use fields::Cause;
 
 /// All causes, in the order of their numbers.
-pub const CAUSES: [Cause; 22] = [
+pub const CAUSES: [Cause; 26] = [
     Cause::RecordLength,
     Cause::NotFile,
     Cause::AttributeCut,
@@ -28,6 +28,10 @@ pub const CAUSES: [Cause; 22] = [
     Cause::NoRoom,
     Cause::BadTable,
     Cause::BadState,
+    Cause::RunSize,
+    Cause::RunCut,
+    Cause::RunEmpty,
+    Cause::RunRange,
 ];
 
 fn found(causes: &[Cause], number: u8) -> Option<Cause>

@@ -9,7 +9,7 @@ use Rattle.fields.specs.declared.Cause.TheVariants.{AttributeLong, UnknownType, 
 use Rattle.fields.specs.declared.Cause.TheVariants.{NameEnd, ValueOffset, ValueEnd, RunsOffset}
 use Rattle.fields.specs.declared.Cause.TheVariants.{ListNotResident, EntryCut, EntryShort, EntryNameCut}
 use Rattle.fields.specs.declared.Cause.TheVariants.{NoRecord, NoAttribute, PartResident, NoRoom}
-use Rattle.fields.specs.declared.Cause.TheVariants.{BadTable, BadState}
+use Rattle.fields.specs.declared.Cause.TheVariants.{BadTable, BadState, RunSize, RunCut, RunEmpty, RunRange}
 
 abbrev pub number_of : Cause → ℕ
 number_of RecordLength = 1
@@ -34,6 +34,10 @@ number_of PartResident = 19
 number_of NoRoom = 20
 number_of BadTable = 21
 number_of BadState = 22
+number_of RunSize = 23
+number_of RunCut = 24
+number_of RunEmpty = 25
+number_of RunRange = 26
 
 -- what a call says that gives a value or refuses
 abbrev pub told : {A : Type 0} → Result A Refusal → Outcome A

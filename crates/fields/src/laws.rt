@@ -1,11 +1,13 @@
 //! What holds of the definitions, each law the contract of a function that does nothing.
 ghost use Rattle.fields.specs.Told.{number_of, told, told_step, told_report};
-ghost use Rattle.fields.specs.Laws.{NumbersSplit, NumbersFit, Settles};
+ghost use Rattle.fields.specs.Laws.{NumbersSplit, NumbersFit, NumbersReadBack, NumbersWriteBack, Settles};
 
 /// What numbers of every width share (RULES 1).
 pub fn numbers_over_the_width()
     ensures split { NumbersSplit }
     ensures fit { NumbersFit }
+    ensures read_back { NumbersReadBack }
+    ensures write_back { NumbersWriteBack }
 {}
 
 /// A number tells its cause (RULES 19).

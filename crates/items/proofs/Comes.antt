@@ -30,6 +30,7 @@ use Rattle.items.specs.declared.walk.Rest.{Rest}
 use Rattle.items.specs.declared.walk.Key.{Key}
 use Rattle.items.specs.declared.walk.State.{State}
 use Rattle.items.specs.declared.walk.Item.{Item}
+use Rattle.items.proofs.Opened.{opened_file}
 use Rattle.items.proofs.Peel.{peel}
 
 the-item : {i j : Item} → Answer.gives i ≡ Answer.gives j → i ≡ j
@@ -131,6 +132,22 @@ module _ (s : List ℕ) (n : RecordNumber) (look : RecordNumber → Option (List
   unfolding opened_as
   anywhere wanted miss other None t e = absurd (refused-given e)
   anywhere wanted miss other (Some b) t e = e
+
+  -- a record that was looked up has the number that was wanted
+  numbered : (wanted : RecordNumber) (miss : Refusal) (o : Option (List ℕ)) (t : Lent)
+      → opened_as wanted miss o ≡ gives t → t.number ≡ wanted
+  unfolding opened_as
+  numbered wanted miss None t e = absurd (refused-given e)
+  numbered wanted miss (Some b) t e = ap (λ (x : Lent). x.number) (opened_file b wanted t (sym e))
+
+  -- and is found again by it, whatever place is blamed
+  pub looked-again : (wanted : RecordNumber) (place other : ℕ) (t : Lent) → lookup_of s n look wanted place ≡ gives t
+      → lookup_of s n look t.number other ≡ gives t
+  unfolding lookup_of
+  looked-again wanted place other t e =
+      ap (λ (f : RecordNumber). opened_as f (refusal NoRecord n other) (held_by s n look f))
+      (numbered wanted (refusal NoRecord n place) (held_by s n look wanted) t e)
+      ∙ anywhere wanted _ _ (held_by s n look wanted) t e
 
   -- an entry's attribute was found in the record that its lookup gives
   again : (i : Item) (place : ℕ) (x : EntryItem s n look i) (a : Outcome Lent)

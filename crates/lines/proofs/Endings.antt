@@ -1,5 +1,5 @@
 -- Every listing ends: its walk comes to its end or is refused, since an item lowers what is left to read.
-use Rattle.std.proofs.Common.{ℕ, zero, suc, ◌≡◌, ◌<◌, List, [], ◌∷◌, ◌++◌, map, length}
+use Rattle.std.proofs.Common.{ℕ, zero, suc, ◌≡◌, ◌<◌, List, [], ◌∷◌, ◌++◌, flat_map, length}
 use Rattle.std.proofs.Common.{refl, sym, subst, ◌∙◌, arith}
 use Rattle.std.specs.Prelude.{Option, Some, None}
 use Rattle.fields.specs.Answer.{Outcome, Answer, gives, ends, refuses}
@@ -17,7 +17,7 @@ use Rattle.items.specs.declared.walk.State.{State}
 use Rattle.items.proofs.Falls.{falls}
 use Rattle.parts.specs.Parts.{parts_of}
 use Rattle.parts.specs.declared.Part.{Part}
-use Rattle.lines.specs.Listing.{given_parts, lines_after, lines_run, walk_lines}
+use Rattle.lines.specs.Listing.{given_parts, item_runs, part_lines, lines_after, lines_run, walk_lines}
 use Rattle.lines.specs.Listing.{opened_lines, base_lines, table_lines, checked_lines, listing_of}
 use Rattle.lines.specs.Numbered.{found_lines, numbered_lines, record_listing, table_listing}
 use Rattle.lines.specs.Ending.{says, said_last}
@@ -25,7 +25,6 @@ use Rattle.lines.specs.Finished.{Finished}
 use Rattle.lines.specs.Rest.{rest}
 use Rattle.lines.specs.declared.Lines.{Lines}
 use Rattle.lines.specs.declared.line.Line.{Line}
-use Rattle.lines.specs.declared.line.Line.TheVariants as line
 use Rattle.lines.specs.declared.ending.Ending.{Ending}
 use Rattle.lines.specs.declared.ending.Ending.TheVariants as ending
 
@@ -58,8 +57,8 @@ module _ (room : ℕ) (s : List ℕ) (n : RecordNumber) (look : RecordNumber →
       → Ends (lines_after room s n look (lines_run room s n look fuel) k (next_of s n look w).left a)
   after fuel k w h on (gives i) e =
       let f = falls s n look w i e in
-      more _ _ (behind (map (λ p. line.Part p) (given_parts (parts_of s n look room i.rest))) _
-      (on _ _ (omega arith)))
+      more _ _ (behind (item_runs room s n look i) _
+      (behind (flat_map (part_lines s n look) (given_parts (parts_of s n look room i.rest))) _ (on _ _ (omega arith))))
   after fuel k w h on ends e = alone _ ending.Whole refl
   after fuel k w h on (refuses r) e = alone _ (ending.Stopped r.cause) refl
 

@@ -11,6 +11,8 @@ abbrev pub says : Line → Option Ending
 says (line.Record n m) = None
 says (line.Attribute a) = None
 says (line.Part p) = None
+says (line.Run r) = None
+says (line.RunsRefused c) = None
 says (line.End k) = Some ending.Whole
 says (line.Stopped c k) = Some (ending.Stopped c)
 says line.TableRefused = Some (ending.Refused BadTable)

@@ -8,10 +8,13 @@ use Rattle.parts.specs.Parts.{Parts}
 use Rattle.parts.specs.declared.Part.{Part}
 use Rattle.lines.specs.declared.line.Contents.{Contents}
 use Rattle.lines.specs.declared.line.Line.{Line}
-use Rattle.lines.specs.Listing.{contents_from, item_line, given_parts}
+use Rattle.lines.specs.Listing.{contents_from, item_line, item_runs, given_parts}
 
 abbrev pub line_in : ℕ → File → Item → Line
 line_in room f i = item_line room f.base.bytes.now f.base.number (record_of f.table.bytes.now) i
+
+abbrev pub runs_in : ℕ → File → Item → List Line
+runs_in room f i = item_runs room f.base.bytes.now f.base.number (record_of f.table.bytes.now) i
 
 abbrev pub contents_in : ℕ → File → Option Rest → Contents → Contents
 contents_in room f l v = contents_from room f.base.bytes.now f.base.number (record_of f.table.bytes.now) l v

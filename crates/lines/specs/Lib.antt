@@ -1,5 +1,6 @@
 -- The definition's chapter on the listing: its lines and their text, what is still to come, and how it goes out.
 pub mod Line
+pub mod Runs
 pub mod Listing
 pub mod Numbered
 pub mod Raw

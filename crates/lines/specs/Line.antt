@@ -1,9 +1,11 @@
--- RULES 18.2 to 18.4, 18.6: the text of a listing's lines. A line ends in one newline.
+-- RULES 18.2 to 18.4, 18.6, 18.12: the text of a listing's lines. A line ends in one newline.
 use Rattle.std.specs.Prelude.{ℕ, List, [], ◌∷◌, ◌++◌, flat_map}
 use Rattle.fields.specs.Told.{number_of}
 use Rattle.fields.specs.declared.Cause.TheVariants.{NoRecord, BadTable}
 use Rattle.text.specs.Decimal.{words}
 use Rattle.parts.specs.declared.Part.{Part}
+use Rattle.runs.specs.declared.run.Run.{Run}
+use Rattle.runs.specs.declared.run.Run.TheVariants as runs
 use Rattle.lines.specs.declared.line.Name.{Name}
 use Rattle.lines.specs.declared.line.Name.TheVariants as name
 use Rattle.lines.specs.declared.line.Contents.{Contents}
@@ -52,10 +54,17 @@ part_numbers p = p.file.0 ∷ p.offset ∷ p.lowest.0 ∷ p.runs.from ∷ p.runs
 abbrev pub part_text : Part → List ℕ
 part_text p = words "part" (part_numbers p) ++ newline
 
+-- `run START LENGTH`, or `hole LENGTH`
+abbrev pub run_text : Run → List ℕ
+run_text (runs.Clusters s k) = words "run" (s.0 ∷ k ∷ []) ++ newline
+run_text (runs.Hole k) = words "hole" (k ∷ []) ++ newline
+
 abbrev pub line_text : Line → List ℕ
 line_text (line.Record n m) = words "record" (n.0 ∷ []) ++ words " size" (m ∷ []) ++ newline
 line_text (line.Attribute a) = attribute_text a
 line_text (line.Part p) = part_text p
+line_text (line.Run r) = run_text r
+line_text (line.RunsRefused c) = words "run refused" (number_of c ∷ []) ++ newline
 line_text (line.End k) = words "end reads" (k ∷ []) ++ newline
 line_text (line.Stopped c k) = words "stopped" (number_of c ∷ []) ++ words " reads" (k ∷ []) ++ newline
 line_text line.TableRefused = words "table refused" (number_of BadTable ∷ []) ++ newline

@@ -1,5 +1,5 @@
 -- RULES 18: the whole listing, a list of lines, from what the layers below define: items, parts, names and values.
-use Rattle.std.specs.Prelude.{ℕ, zero, suc, ◌+◌, List, [], ◌∷◌, ◌++◌, map, ltb, length, Option, None, Some}
+use Rattle.std.specs.Prelude.{ℕ, zero, suc, ◌+◌, List, [], ◌∷◌, ◌++◌, map, flat_map, ltb, length, Option, None, Some}
 use Rattle.fields.specs.Pick.{pick}
 use Rattle.fields.specs.Answer.{Outcome, Answer, gives, ends, refuses, ◌⟫◌}
 use Rattle.fields.specs.declared.RecordNumber.{RecordNumber}
@@ -24,6 +24,7 @@ use Rattle.lines.specs.declared.line.Contents.{Contents}
 use Rattle.lines.specs.declared.line.Contents.TheVariants as contents
 use Rattle.lines.specs.declared.line.Line.{Line}
 use Rattle.lines.specs.declared.line.Line.TheVariants as line
+use Rattle.lines.specs.Runs.{run_lines, value_lines}
 -- 18.1: room for as many parts as a record of 4,096 bytes can hold entries
 pub use Rattle.parts.specs.Filled.{most_parts}
 
@@ -64,12 +65,19 @@ name_in r place = named (r ⟫ λ x. name_of x.bytes x.number place)
 abbrev pub value_in : Outcome Lent → ℕ → Contents
 value_in r place = valued (r ⟫ λ x. values.value_of x.bytes x.number place)
 
+-- 18.12: the line of a part, and its runs under it, in a base record with its number and by what is looked up
+abbrev pub part_lines : List ℕ → RecordNumber → (RecordNumber → Option (List ℕ)) → Part → List Line
+part_lines s n look p = line.Part p ∷ run_lines (lookup_of s n look p.file 0) p.runs
+
 -- the base record with its number, what is looked up, and room for so many parts
 module _ (room : ℕ) (s : List ℕ) (n : RecordNumber) (look : RecordNumber → Option (List ℕ)) where
   -- 18.4: the parts form for an item that tells a list, else its value
   abbrev pub contents_from : Option Rest → Contents → Contents
   contents_from None v = v
   contents_from (Some l) v = parts_contents (parts_of s n look room (Some l))
+
+  abbrev pub item_contents : Item → Contents
+  item_contents i = contents_from i.rest (value_in (lookup_of s n look i.file 0) i.attribute.offset)
 
   unfoldable pub item_line : Item → Line
   item_line i = line.Attribute (record {
@@ -79,15 +87,20 @@ module _ (room : ℕ) (s : List ℕ) (n : RecordNumber) (look : RecordNumber →
     length = i.attribute.length;
     instance = i.attribute.instance;
     name = name_in (lookup_of s n look i.file 0) i.attribute.offset;
-    contents = contents_from i.rest (value_in (lookup_of s n look i.file 0) i.attribute.offset);
+    contents = item_contents i;
   })
+
+  -- 18.12: the runs of its value, under its line
+  unfoldable pub item_runs : Item → List Line
+  item_runs i = value_lines (lookup_of s n look i.file 0) (item_contents i)
 
   -- 18.2: what follows an answer of the walk after k reads; the parts of an item are asked for once, behind its line
   abbrev pub lines_after : (ℕ → State → List Line) → ℕ → State → Answer Item → List Line
   lines_after on k w (gives i) =
       item_line i
-      ∷ (map (λ p. line.Part p) (given_parts (parts_of s n look room i.rest))
-      ++ on (k + length (parts_of s n look room i.rest).reads) w)
+      ∷ (item_runs i
+      ++ (flat_map (part_lines s n look) (given_parts (parts_of s n look room i.rest))
+      ++ on (k + length (parts_of s n look room i.rest).reads) w))
   lines_after on k w ends = line.End k ∷ []
   lines_after on k w (refuses r) = line.Stopped r.cause k ∷ []
 

@@ -20,7 +20,11 @@ impl Line {
         ensures { result ≡ says self.now }
     {
         match *self {
-            Line::Record { .. } | Line::Attribute(_) | Line::Part(_) => None,
+            Line::Record { .. }
+            | Line::Attribute(_)
+            | Line::Part(_)
+            | Line::Run(_)
+            | Line::RunsRefused(_) => None,
             Line::End { .. } => Some(Ending::Whole),
             Line::Stopped { cause, .. } => Some(Ending::Stopped(cause)),
             Line::TableRefused => Some(Ending::Refused(Cause::BadTable)),

@@ -18,23 +18,18 @@ pub struct Listed {
 }
 
 impl<'a> Lines<'a> {
-    ghost use Rattle.std.specs.Prelude.{◌≡◌, ◌++◌, length, take};
+    ghost use Rattle.std.specs.Prelude.{◌≡◌, ◌++◌, List, length, take};
+    ghost use Rattle.parts.specs.declared.Part.{Part};
     ghost use Rattle.lines.specs.Line.{lines_text};
     ghost use Rattle.lines.specs.Page.{page_of, none, Pages};
     ghost use Rattle.lines.specs.Rest.{rest};
 
-    /// Whether no line is to come, of a listing with this lent list.
-    #[tactic(auto, using(crate::proofs::Ends::ends, crate::proofs::Rests::rests))]
-    pub fn is_done(&self, parts: &[Part]) -> bool
-        ensures { result ≡ none (rest parts.now self.now) }
+    /// Whether no line is to come: a walk has one at least.
+    #[tactic(auto, using(crate::proofs::Ends::ends))]
+    pub fn is_done(&self) -> bool
+        ensures { (ps : List Part) → result ≡ none (rest ps self.now) }
     {
-        if self.first.is_some() {
-            return false;
-        }
-        if self.shown < self.count && self.shown < parts.len() {
-            return false;
-        }
-        self.walk.is_none() && self.last.is_none()
+        self.first.is_none() && self.walk.is_none() && self.last.is_none()
     }
 
     /// Line after line from the front of a buffer, as long as 256 bytes are left; how many bytes they fill. None is
@@ -71,6 +66,6 @@ pub fn list(table: &[u8], out: &mut [u8]) -> Listed
     let end = lines.fill(&mut parts, out);
     Listed {
         end,
-        more: !lines.is_done(&parts),
+        more: !lines.is_done(),
     }
 }

@@ -5,25 +5,36 @@ ghost use Rattle.record.specs.Told.{shown_record};
 ghost use Rattle.record.specs.View.{span};
 ghost use Rattle.parts.specs.OfFile.{parts_of_file};
 ghost use Rattle.lines.specs.Listing.{name_in, value_in, first_size, parts_contents};
-ghost use Rattle.lines.specs.Raw.{raw_line};
-ghost use Rattle.lines.specs.InFile.{line_in, contents_in, Reads};
+ghost use Rattle.lines.specs.Raw.{raw_line, raw_runs};
+ghost use Rattle.lines.specs.InFile.{line_in, runs_in, contents_in, Reads};
+ghost use Rattle.lines.specs.Rest.{runs_rest};
 
+use crate::runs_under::value_runs;
 use crate::{AttributeLine, Contents, Line, Name};
 use fields::Refusal;
 use items::{File, Item, Rest};
 use parts::Part;
 use record::{Attribute, Record, Span, Value, View};
+use runs::Runs;
 
-/// The line of an item, how many parts it has, and what was read for them.
+/// The line of an item, the runs under it, how many parts it has, and what was read for them.
 // The parts are told by their count: no heap, so that the caller lends the room.
 #[derive(Clone, Copy)]
-pub struct Told {
+pub struct Told<'a> {
     pub line: Line,
+    pub runs: Option<Runs<'a>>,
     pub count: usize,
     pub reads: u64,
 }
 
-// The same of what stands for the value.
+/// The line of an attribute of the raw walk, which has no parts, and the runs under it.
+#[derive(Clone, Copy)]
+pub struct Raw<'a> {
+    pub line: Line,
+    pub runs: Option<Runs<'a>>,
+}
+
+// What is told of an item's value, and was read for it.
 #[derive(Clone, Copy)]
 struct Read {
     contents: Contents,
@@ -153,12 +164,14 @@ fn read_contents(file: &File, value: Contents, rest: Option<Rest>, parts: &mut [
     }
 }
 
-/// The line of an attribute of the raw walk, in the record that it lies in (RULES 18.10).
-pub fn raw_line(within: &Record, attribute: &Attribute) -> Line
-    ensures { result ≡ raw_line within.now.bytes.now within.now.number attribute.now }
+/// The line of an attribute of the raw walk, and the runs under it, in the record that it lies in (RULES 18.10).
+pub fn raw_line<'a>(within: &Record<'a>, attribute: &Attribute) -> Raw<'a>
+    ensures line { result.line ≡ raw_line within.now.bytes.now within.now.number attribute.now }
+    ensures runs { runs_rest result.runs ≡ raw_runs within.now.bytes.now within.now.number attribute.now }
 {
-    let places = places_in(&Ok(*within), attribute.offset);
-    Line::Attribute(AttributeLine {
+    let itself = Ok(*within);
+    let places = places_in(&itself, attribute.offset);
+    let line = Line::Attribute(AttributeLine {
         file: within.number,
         offset: attribute.offset,
         ty: attribute.ty,
@@ -166,13 +179,18 @@ pub fn raw_line(within: &Record, attribute: &Attribute) -> Line
         instance: attribute.instance,
         name: places.name,
         contents: places.value,
-    })
+    });
+    Raw {
+        line,
+        runs: value_runs(&itself, places.value),
+    }
 }
 
 /// The line of an item; its parts are written to the front of the lent list.
-#[tactic(auto, unfolding(crate::specs::Listing::item_line))]
-pub fn item_line(file: &File, item: &Item, parts: &mut [Part]) -> Told
+#[tactic(auto, unfolding(crate::specs::Listing::item_line, crate::specs::Listing::item_runs))]
+pub fn item_line<'a>(file: &File<'a>, item: &Item, parts: &mut [Part]) -> Told<'a>
     ensures line { result.line ≡ line_in (length parts.old) file.now item.now }
+    ensures runs { runs_rest result.runs ≡ runs_in (length parts.old) file.now item.now }
     ensures reads { Reads (parts_of_file file.now (length parts.old) item.now.rest) parts.old parts.new
         result.count result.reads }
 {
@@ -191,6 +209,7 @@ pub fn item_line(file: &File, item: &Item, parts: &mut [Part]) -> Told
     });
     Told {
         line,
+        runs: value_runs(&looked, read.contents),
         count: read.count,
         reads: read.reads,
     }

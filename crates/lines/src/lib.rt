@@ -9,27 +9,27 @@ pub mod laws;
 mod line;
 mod open;
 mod put;
+mod runs_under;
 mod walk;
 mod write;
 
 pub use ending::Ending;
 pub use fill::{Listed, list};
-pub use item::raw_line;
+pub use item::{Raw, raw_line};
 pub use line::{AttributeLine, Contents, Line, Name};
 use parts::Part;
 pub use put::put_line;
+pub use runs_under::next_run;
 pub use walk::Walk;
 pub use write::{write_all, write_listing, write_record_of, write_table};
 
 /// The lines of a listing that are still to come. No memory is allocated: the parts of the last item stand in a list
 /// that the caller lends, and lends again to the next call as this one left it.
-// There is no heap, so the parts stand in a list that the caller lends, with their count here. The list is no field,
-// and this no iterator: the compiler refuses a struct that holds such a list beside a walk, wherever one is made.
+// There is no heap, so the parts stand in a list that the caller lends. The list is no field, and this no iterator: the
+// compiler refuses a struct that holds such a list beside a walk, wherever one is made.
 #[derive(Clone, Copy)]
 pub struct Lines<'a> {
     pub first: Option<Line>,
-    pub shown: usize,
-    pub count: usize,
     pub walk: Option<Walk<'a>>,
     pub last: Option<Line>,
 }
@@ -39,9 +39,7 @@ impl<'a> Lines<'a> {
     ghost use Rattle.lines.specs.Rest.{Gives};
 
     /// The next line, or that all have been given. There is room for as many parts as the list is long.
-    // A first line, parts, the walk and a last line in turn: a line a call, as nothing else keeps the place.
     #[inline(always)]
-    #[tactic(auto, using(crate::proofs::Rests::rests))]
     pub fn next(&mut self, parts: &mut [Part]) -> Option<Line>
         ensures gives { Gives parts.old self.old result parts.new self.new }
         ensures size { length parts.new ≡ length parts.old }
@@ -50,15 +48,8 @@ impl<'a> Lines<'a> {
             self.first = None;
             return Some(line);
         }
-        if self.shown < self.count && self.shown < parts.len() {
-            let part = parts[self.shown];
-            self.shown += 1;
-            return Some(Line::Part(part));
-        }
         if let Some(walk) = &mut self.walk {
-            let stepped = walk.step(parts);
-            self.shown = 0;
-            self.count = stepped.count;
+            let stepped = walk.next(parts);
             if stepped.last {
                 self.walk = None;
             }

@@ -1,4 +1,4 @@
-//! One line of a listing, and its text (RULES 18.2 to 18.4).
+//! One line of a listing, and its text (RULES 18.2 to 18.4, 18.12).
 ghost use Rattle.std.specs.Prelude.{◌≡◌, Some, [], ◌∷◌};
 ghost use Rattle.fields.specs.Told.{number_of};
 ghost use Rattle.text.specs.Decimal.{numbers, words};
@@ -7,6 +7,7 @@ ghost use Rattle.lines.specs.Line.{name_text, contents_text, part_numbers, line_
 use fields::{Cause, RecordNumber};
 use parts::Part;
 use record::Span;
+use runs::Run;
 use std::fmt;
 
 /// No line is longer, in bytes.
@@ -49,6 +50,8 @@ pub enum Line {
     Record { number: RecordNumber, size: usize },
     Attribute(AttributeLine),
     Part(Part),
+    Run(Run),
+    RunsRefused(Cause),
     End { reads: u64 },
     Stopped { cause: Cause, reads: u64 },
     TableRefused,
@@ -181,6 +184,9 @@ impl fmt::Display for Line {
                 let five = Five(file, offset, lowest, from, bytes);
                 writeln!(f, "part{five}")
             }
+            Line::Run(Run::Clusters { start, length }) => writeln!(f, "run {} {length}", start.0),
+            Line::Run(Run::Hole { length }) => writeln!(f, "hole {length}"),
+            Line::RunsRefused(cause) => writeln!(f, "run refused {}", cause.number()),
             Line::End { reads } => writeln!(f, "end reads {reads}"),
             Line::Stopped { cause, reads } => {
                 writeln!(f, "stopped {} reads {reads}", cause.number())

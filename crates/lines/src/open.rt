@@ -23,7 +23,7 @@ fn only<'a>(line: Line) -> Lines<'a>
 
 #[tactic(auto, unfolding(crate::specs::Listing::walk_lines, items::specs::State::fresh_of))]
 fn walk_of<'a>(file: File<'a>) -> Walk<'a>
-    ensures { (room : ℕ) → walk_rest room (Some result) ≡ walk_lines room file.entry.base.bytes.now
+    ensures { (ps : List Part) → walk_rest ps (Some result) ≡ walk_lines (length ps) file.entry.base.bytes.now
         file.entry.base.number (record_of file.entry.table.bytes.now) 0 (fresh_of file.entry.base.bytes.now) }
 {
     let state = file.fresh();
@@ -31,6 +31,9 @@ fn walk_of<'a>(file: File<'a>) -> Walk<'a>
     Walk {
         file,
         state,
+        runs: None,
+        shown: 0,
+        count: 0,
         calls: 2 * left + 1,
         reads: 0,
     }
@@ -118,15 +121,9 @@ impl<'a> Lines<'a> {
     // A listing before its first line.
     fn start(first: Option<Line>, walk: Option<Walk<'a>>, last: Option<Line>) -> Lines<'a>
         ensures { (ps : List Part) →
-            rest ps result ≡ option_to_list first ++ (walk_rest (length ps) walk.entry ++ option_to_list last) }
+            rest ps result ≡ option_to_list first ++ (walk_rest ps walk.entry ++ option_to_list last) }
     {
-        Lines {
-            first,
-            shown: 0,
-            count: 0,
-            walk,
-            last,
-        }
+        Lines { first, walk, last }
     }
 
     /// The listing of a table, with room for as many parts as the list that is lent to each call.

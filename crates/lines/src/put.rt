@@ -6,12 +6,13 @@ ghost use Rattle.fields.specs.Told.{number_of};
 ghost use Rattle.text.specs.Decimal.{words};
 ghost use Rattle.text.specs.Put.{Put};
 ghost use Rattle.lines.specs.Line.{most_line, newline, spaced, name_text, contents_text, attribute_text, part_text};
-ghost use Rattle.lines.specs.Line.{line_text};
+ghost use Rattle.lines.specs.Line.{run_text, line_text};
 
 use crate::line::part_numbers;
 use crate::{AttributeLine, Contents, Line, Name};
 use fields::Cause;
 use parts::Part;
+use runs::Run;
 use text::{put_byte, put_words};
 
 fn put_name(out: &mut [u8], at: usize, name: Name) -> usize
@@ -75,6 +76,17 @@ fn put_part(out: &mut [u8], at: usize, part: &Part) -> usize
     put_byte(out, end, b'\n')
 }
 
+fn put_run(out: &mut [u8], at: usize, run: Run) -> usize
+    requires { at + most_line ≤ length out.old }
+    ensures { Put out.old at out.new result (run_text run) most_line }
+{
+    let end = match run {
+        Run::Clusters { start, length } => put_words(out, at, b"run", &[start.0, length]),
+        Run::Hole { length } => put_words(out, at, b"hole", &[length]),
+    };
+    put_byte(out, end, b'\n')
+}
+
 fn put_refused(out: &mut [u8], at: usize, cause: Cause) -> usize
     requires { at + most_line ≤ length out.old }
     ensures { Put out.old at out.new result (words "table refused" (number_of cause ∷ []) ++ newline) most_line }
@@ -92,6 +104,11 @@ pub fn put_line(out: &mut [u8], at: usize, line: &Line) -> usize
     match line {
         Line::Attribute(a) => put_attribute(out, at, a),
         Line::Part(part) => put_part(out, at, part),
+        Line::Run(run) => put_run(out, at, *run),
+        Line::RunsRefused(cause) => {
+            let end = put_words(out, at, b"run refused", &[u64::from(cause.number())]);
+            put_byte(out, end, b'\n')
+        }
         Line::Record { number, size } => {
             let end = put_words(out, at, b"record", &[number.0]);
             let end = put_words(out, end, b" size", &[*size as u64]);

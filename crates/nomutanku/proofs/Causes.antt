@@ -9,7 +9,7 @@ use Rattle.fields.specs.declared.Cause.TheVariants.{AttributeLong, UnknownType, 
 use Rattle.fields.specs.declared.Cause.TheVariants.{NameEnd, ValueOffset, ValueEnd, RunsOffset}
 use Rattle.fields.specs.declared.Cause.TheVariants.{ListNotResident, EntryCut, EntryShort, EntryNameCut}
 use Rattle.fields.specs.declared.Cause.TheVariants.{NoRecord, NoAttribute, PartResident, NoRoom}
-use Rattle.fields.specs.declared.Cause.TheVariants.{BadTable, BadState}
+use Rattle.fields.specs.declared.Cause.TheVariants.{BadTable, BadState, RunSize, RunCut, RunEmpty, RunRange}
 use Rattle.command.specs.Explain.{explained}
 use Rattle.command.specs.declared.explain.TheConstants.{CAUSES}
 
@@ -36,6 +36,10 @@ small PartResident = omega arith
 small NoRoom = omega arith
 small BadTable = omega arith
 small BadState = omega arith
+small RunSize = omega arith
+small RunCut = omega arith
+small RunEmpty = omega arith
+small RunRange = omega arith
 
 none_in : (n : ℕ) → 255 < n → (cs : List Cause) → explained cs n ≡ None
 none_in n more [] = refl

@@ -52,7 +52,7 @@ fn list<'a>(alloc: Global) -> Result<Command<'a>, AllocError>
         "List the record with number N, where it is not the base row that is wanted",
     );
     Command::new(alloc, "list")
-        .about("List the attributes of a table's base record, with their parts")
+        .about("List the attributes of a table's base record, with their parts and cluster runs")
         .arg(base)?
         .arg(json(alloc))?
         .arg(tables(alloc))
@@ -77,7 +77,9 @@ fn one_record<'a>(alloc: Global) -> Result<Command<'a>, AllocError>
         "One fixed-up record; - is standard input, as is none where something is piped in",
     );
     Command::new(alloc, "record")
-        .about("Tell one fixed-up record's header, and its attributes as they stand in it")
+        .about(
+            "Tell one fixed-up record's header, and its attributes as they stand in it, with their runs",
+        )
         .after_help(PROTECTED)
         .arg(number)?
         .arg(json(alloc))?

@@ -5,3 +5,4 @@ pub mod Puts
 pub mod Rooms
 pub mod Settled
 pub mod Some
+pub mod Again

@@ -1,7 +1,9 @@
 -- What holds of this chapter whatever the bytes; src/laws.rt has the functions whose contracts these are.
-use Rattle.std.specs.Prelude.{ℕ, ◌≤◌, ◌≡◌, List, ◌++◌, map, drop, length, Option, Some}
+use Rattle.std.specs.Prelude.{ℕ, ◌+◌, ◌≤◌, ◌≡◌, List, ◌++◌, map, drop, length, Option, Some, All}
 use Rattle.fields.specs.Answer.{gives}
 use Rattle.fields.specs.declared.RecordNumber.{RecordNumber}
+use Rattle.record.specs.Open.{Lent}
+use Rattle.items.specs.Lookup.{lookup_of}
 use Rattle.items.specs.Items.{next_of}
 use Rattle.items.specs.declared.walk.Rest.{Rest}
 use Rattle.items.specs.declared.walk.State.{State}
@@ -36,3 +38,14 @@ abbrev pub WholePartsAreSome : Type 0
 WholePartsAreSome = (s : List ℕ) (n : RecordNumber) (look : RecordNumber → Option (List ℕ)) (w : State) (i : Item)
     (l : Rest) (room : ℕ) → (next_of s n look w).answer ≡ gives i → i.rest ≡ Some l
     → (parts_of s n look room (Some l)).answer ≡ gives tt → 1 ≤ length (parts_of s n look room (Some l)).given
+
+-- RULES 15.3: a part's record is found again by its number, whatever place is blamed, and its run bytes lie inside it
+pub record FoundAgain (s : List ℕ) (n : RecordNumber) (look : RecordNumber → Option (List ℕ)) (place : ℕ) (p : Part)
+    : Type 0 where
+  pub within : Lent
+  pub opened : lookup_of s n look p.file place ≡ gives within
+  pub inside : p.runs.from + p.runs.bytes ≤ length within.bytes
+
+abbrev pub PartsAreFoundAgain : Type 0
+PartsAreFoundAgain = (s : List ℕ) (n : RecordNumber) (look : RecordNumber → Option (List ℕ)) (room : ℕ)
+    (o : Option Rest) (place : ℕ) → All (λ g. FoundAgain s n look place g.part) (parts_of s n look room o).given

@@ -2,6 +2,7 @@
 ghost use Rattle.fields.specs.Laws.{Settles};
 ghost use Rattle.parts.specs.Filled.{collected};
 ghost use Rattle.parts.specs.Laws.{FilledSettle, PartsInFront, PartsFit, RoomSuffices, WholePartsAreSome};
+ghost use Rattle.parts.specs.Laws.{PartsAreFoundAgain};
 
 /// A call whose contract states what it reports leaves one list and has one result at most (RULES 2, 17).
 pub fn results_settle()
@@ -24,4 +25,9 @@ pub fn room_suffices()
 /// Parts of an item that tells a list are refused, or are at least one (RULES 15).
 pub fn whole_parts_are_some()
     ensures { WholePartsAreSome }
+{}
+
+/// The record of each part is found again by its number, and the part's run bytes lie inside it (RULES 15).
+pub fn parts_are_found_again()
+    ensures { PartsAreFoundAgain }
 {}

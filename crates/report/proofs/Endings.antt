@@ -1,5 +1,5 @@
 -- Every report ends: its last line says how.
-use Rattle.std.proofs.Common.{ℕ, ◌≡◌, List, [], ◌∷◌, ◌++◌, map, length, refl, sym, subst, ◌∙◌}
+use Rattle.std.proofs.Common.{ℕ, ◌≡◌, List, [], ◌∷◌, ◌++◌, map, length, refl, sym, ap, subst, ◌∙◌, append-nil}
 use Rattle.std.specs.Prelude.{Option, Some, None}
 use Rattle.fields.specs.Answer.{Outcome, gives, refuses}
 use Rattle.fields.specs.declared.Cause.TheVariants.{BadTable}
@@ -13,6 +13,7 @@ use Rattle.record.specs.declared.layout.Attribute.{Attribute}
 use Rattle.parts.specs.declared.Part.{Part}
 use Rattle.lines.specs.Ending as listings
 use Rattle.lines.specs.Finished as ended
+use Rattle.lines.specs.Raw.{raw_line, raw_runs}
 use Rattle.lines.specs.Numbered.{table_listing, record_listing}
 use Rattle.lines.specs.declared.line.Line as listing
 use Rattle.lines.specs.declared.ending.Ending.{Ending}
@@ -35,11 +36,20 @@ unfolding said_last
 rows_said [] o k = refl
 rows_said (f ∷ fs) o k = rows_said fs (says (row_of f)) k
 
+-- behind lines of a listing the rest ends as it does alone, whatever they say
+behind : (ls : List listing.Line) (ms : List Line) (o : Option Ending)
+    → said_last says o (map (λ x. line.Listed x) ls ++ ms) ≡ said_last says (said_last listings.says o ls) ms
+unfolding said_last
+behind [] ms o = refl
+behind (l ∷ ls) ms o = behind ls ms (listings.says l)
+
 walk_said : (s : List ℕ) (n : RecordNumber) (hs : List (Outcome Attribute)) (o : Option Ending)
     → (e : Ending) × (said_last says o (walk_lines s n hs) ≡ Some e)
 unfolding said_last walk_lines
 walk_said s n [] o = (ending.Whole, refl)
-walk_said s n (gives h ∷ hs) o = walk_said s n hs None
+walk_said s n (gives h ∷ hs) o =
+    let p = walk_said s n hs (said_last listings.says (listings.says (raw_line s n h)) (raw_runs s n h)) in
+    (p.0, behind (raw_runs s n h) (walk_lines s n hs) None ∙ p.1)
 walk_said s n (refuses r ∷ hs) o = (ending.Stopped r.cause, refl)
 
 rows_finish : (t : List ℕ) (a : Outcome TableHeader) → Finished (rows_lines t a)
@@ -69,8 +79,8 @@ record_ends ps l s n e = as_lines _ _ e (opened_finishes (open_of s n))
 listed_said : (ls : List listing.Line) (o : Option Ending)
     → said_last says o (map (λ x. line.Listed x) ls) ≡ said_last listings.says o ls
 unfolding said_last
-listed_said [] o = refl
-listed_said (l ∷ ls) o = listed_said ls (listings.says l)
+listed_said ls o =
+    ap (said_last says o) (sym (append-nil (map (λ x. line.Listed x) ls))) ∙ behind ls [] o
 
 listed_finishes : (ls : List listing.Line) → ended.Finished ls → Finished (map (λ x. line.Listed x) ls)
 listed_finishes ls f = record { ending = f.ending; told = listed_said ls None ∙ f.told }

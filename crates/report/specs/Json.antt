@@ -4,6 +4,8 @@ use Rattle.std.specs.Fmt.{decimal}
 use Prim.Native.String.{String}
 use Rattle.record.specs.declared.layout.RecordHeader.{RecordHeader}
 use Rattle.parts.specs.declared.Part.{Part}
+use Rattle.runs.specs.declared.run.Run.{Run}
+use Rattle.runs.specs.declared.run.Run.TheVariants as runs
 use Rattle.fields.specs.Told.{number_of}
 use Rattle.fields.specs.declared.Cause.TheVariants.{NoRecord, BadTable}
 use Rattle.lines.specs.declared.line.Name.{Name}
@@ -59,10 +61,16 @@ part_json p =
     opened "part" ++ field "record" p.file.0 ++ field "offset" p.offset ++ field "vcn" p.lowest.0
     ++ field "runs_offset" p.runs.from ++ field "runs_bytes" p.runs.bytes ++ closed
 
+abbrev pub run_json : Run → List ℕ
+run_json (runs.Clusters s k) = opened "run" ++ field "start" s.0 ++ field "length" k ++ closed
+run_json (runs.Hole k) = opened "hole" ++ field "length" k ++ closed
+
 abbrev pub listed_json : listing.Line → List ℕ
 listed_json (listed.Record n m) = opened "record" ++ field "number" n.0 ++ field "size" m ++ closed
 listed_json (listed.Attribute a) = attribute_json a
 listed_json (listed.Part p) = part_json p
+listed_json (listed.Run r) = run_json r
+listed_json (listed.RunsRefused c) = opened "run refused" ++ field "refusal" (number_of c) ++ closed
 listed_json (listed.End k) = opened "end" ++ field "reads" k ++ closed
 listed_json (listed.Stopped c k) = opened "stopped" ++ field "refusal" (number_of c) ++ field "reads" k ++ closed
 listed_json listed.TableRefused = opened "table refused" ++ field "refusal" (number_of BadTable) ++ closed

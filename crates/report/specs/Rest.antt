@@ -18,7 +18,8 @@ abbrev pub source_rest : List Part → Source → List Line
 source_rest ps source.Done = []
 source_rest ps (source.Listing l) = map (λ x. line.Listed x) (listing.rest ps l)
 source_rest ps (source.Rows i k) = rows_behind (tables.rest i) k
-source_rest ps (source.Attributes r i) = walk_lines r.bytes.now r.number (records.rest i)
+source_rest ps (source.Attributes r us i) =
+    map (λ x. line.Listed x) (listing.runs_rest us) ++ walk_lines r.bytes.now r.number (records.rest i)
 
 -- up to two first lines, and what the source gives
 abbrev pub rest : List Part → Lines → List Line

@@ -6,7 +6,7 @@ ghost use Rattle.fields.specs.Told.{number_of};
 ghost use Rattle.lines.specs.declared.line.Contents.TheVariants as contents;
 ghost use Rattle.report.specs.Room.{most_json};
 ghost use Rattle.report.specs.Json.{opened, field, closed, name_json, contents_json, place_json};
-ghost use Rattle.report.specs.Json.{attribute_json, part_json};
+ghost use Rattle.report.specs.Json.{attribute_json, part_json, run_json};
 ghost use Rattle.report.specs.Json.{listed_json, state_json, header_json, json_text};
 
 use crate::{Line, State};
@@ -14,6 +14,7 @@ use fields::{Cause, RecordNumber};
 use lines::{AttributeLine, Contents, Name};
 use parts::Part;
 use record::{RecordHeader, Span};
+use runs::Run;
 use text::put_words;
 
 // Bytes that hold no number.
@@ -180,6 +181,25 @@ fn put_part(out: &mut [u8], at: usize, part: &Part) -> usize
     put_fixed(out, bytes, b"}\n")
 }
 
+fn put_run(out: &mut [u8], at: usize, run: Run) -> usize
+    requires { at + most_json ≤ length out.old }
+    ensures { Put out.old at out.new result (run_json run) most_json }
+{
+    match run {
+        Run::Clusters { start, length } => put_two_whole(
+            out,
+            at,
+            b"{\"line\":\"run\",\"start\":",
+            start.0,
+            b",\"length\":",
+            length,
+        ),
+        Run::Hole { length } => {
+            put_one_whole(out, at, b"{\"line\":\"hole\",\"length\":", length)
+        }
+    }
+}
+
 fn put_refused(out: &mut [u8], at: usize, cause: Cause) -> usize
     requires { at + most_json ≤ length out.old }
     ensures { Put out.old at out.new result
@@ -200,6 +220,13 @@ fn put_listed(out: &mut [u8], at: usize, line: &lines::Line) -> usize
     match line {
         lines::Line::Attribute(a) => put_attribute(out, at, a),
         lines::Line::Part(part) => put_part(out, at, part),
+        lines::Line::Run(run) => put_run(out, at, *run),
+        lines::Line::RunsRefused(cause) => put_one_whole(
+            out,
+            at,
+            b"{\"line\":\"run refused\",\"refusal\":",
+            u64::from(cause.number()),
+        ),
         lines::Line::Record { number, size } => put_two_whole(
             out,
             at,

@@ -1,5 +1,5 @@
 //! The lines of a report, one by one: no memory is allocated (RULES 18.9, 18.10).
-ghost use Rattle.std.specs.Prelude.{◌≡◌, List, [], ◌∷◌, map};
+ghost use Rattle.std.specs.Prelude.{◌≡◌, List, [], ◌∷◌, ◌++◌, map};
 ghost use Rattle.record.specs.Rest as records;
 ghost use Rattle.table.specs.Rows as tables;
 ghost use Rattle.parts.specs.declared.Part.{Part};
@@ -11,19 +11,21 @@ ghost use Rattle.report.specs.Rest.{source_rest, Gives};
 
 use crate::{Line, State};
 use fields::RecordNumber;
-use lines::raw_line;
+use lines::{next_run, raw_line};
 use parts::Part;
 use record::{Attributes, Record};
+use runs::Runs;
 use table::{EachRow, Row, Table};
 
-/// Where the next line comes from: rows, of which there were so many in all, or the attributes of a record.
+/// Where the next line comes from: rows, of which there were so many in all, or the runs under the line before and the
+/// attributes of a record.
 // The count and the record stand beside the iterators, whose contracts tell only what they give.
 #[derive(Clone, Copy)]
 pub enum Source<'a> {
     Done,
     Listing(lines::Lines<'a>),
     Rows(EachRow<'a>, usize),
-    Attributes(Record<'a>, Attributes<'a>),
+    Attributes(Record<'a>, Option<Runs<'a>>, Attributes<'a>),
 }
 
 /// A line, if one is to come, and where the next one comes from.
@@ -86,17 +88,20 @@ fn step_rows<'a>(mut rows: EachRow<'a>, count: usize) -> Stepped<'a>
     }
 }
 
-// An attribute's line, or how the walk ended.
+// An attribute's line with its runs to come, or how the walk ended.
 #[tactic(auto, unfolding(crate::specs::Record::walk_lines))]
 fn step_attributes<'a>(within: Record<'a>, mut attributes: Attributes<'a>) -> Stepped<'a>
     ensures { (ps : List Part) → Gives (walk_lines within.entry.bytes.now within.entry.number
         (records.rest attributes.entry)) result.line (source_rest ps result.left) }
 {
     match attributes.next() {
-        Some(Ok(attribute)) => Stepped {
-            line: Some(Line::Listed(raw_line(&within, &attribute))),
-            left: Source::Attributes(within, attributes),
-        },
+        Some(Ok(attribute)) => {
+            let raw = raw_line(&within, &attribute);
+            Stepped {
+                line: Some(Line::Listed(raw.line)),
+                left: Source::Attributes(within, raw.runs, attributes),
+            }
+        }
         Some(Err(r)) => Stepped {
             line: Some(Line::Stopped(r.cause)),
             left: Source::Done,
@@ -108,11 +113,30 @@ fn step_attributes<'a>(within: Record<'a>, mut attributes: Attributes<'a>) -> St
     }
 }
 
+// A run of the line before, or what the walk gives.
+fn step_record<'a>(
+    within: Record<'a>,
+    mut runs: Option<Runs<'a>>,
+    attributes: Attributes<'a>,
+) -> Stepped<'a>
+    ensures { (ps : List Part) → Gives (map (λ x. line.Listed x) (listings.runs_rest runs.entry)
+        ++ walk_lines within.entry.bytes.now within.entry.number (records.rest attributes.entry))
+        result.line (source_rest ps result.left) }
+{
+    match next_run(&mut runs) {
+        Some(line) => Stepped {
+            line: Some(Line::Listed(line)),
+            left: Source::Attributes(within, runs, attributes),
+        },
+        None => step_attributes(within, attributes),
+    }
+}
+
 impl<'a> Source<'a> {
     ghost use Rattle.report.specs.Rest.{Steps};
 
-    /// The next line: a listing's, a row's or an attribute's, and behind the last of these how many rows there were, or
-    /// how the walk ended. The list is lent as in a listing.
+    /// The next line: a listing's, a row's, an attribute's or a run's, and behind the last of these how many rows there
+    /// were, or how the walk ended. The list is lent as in a listing.
     pub fn step(self, parts: &mut [Part]) -> Stepped<'a>
         ensures { Steps parts.old self.entry parts.new result }
     {
@@ -123,7 +147,7 @@ impl<'a> Source<'a> {
             },
             Source::Listing(listing) => step_listing(listing, parts),
             Source::Rows(rows, count) => step_rows(rows, count),
-            Source::Attributes(within, attributes) => step_attributes(within, attributes),
+            Source::Attributes(within, runs, attributes) => step_record(within, runs, attributes),
         }
     }
 }
@@ -196,7 +220,7 @@ impl<'a> Lines<'a> {
                     size: opened.bytes.len(),
                 })),
                 second: Some(Line::Header(opened.header())),
-                source: Source::Attributes(opened, opened.attributes()),
+                source: Source::Attributes(opened, None, opened.attributes()),
             },
             Err(r) => Lines::only(Line::Refused(r.cause)),
         }

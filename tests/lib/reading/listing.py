@@ -9,6 +9,7 @@ from .answers import Refusal, Span
 from .entries import entry
 from .items import fresh, next_in, table_of
 from .record import KNOWN, find, full_of, name, value
+from .runs import all_runs
 
 # RULES 18: a longer input counts as malformed; room for the parts of an item
 MOST = 65536
@@ -26,14 +27,15 @@ class Part(NamedTuple):
 
 # Parts.
 
+def held_by(record, number, rows, wanted):
+    """The record with a number, or None: the base record wins over a row of its number (RULES 11)."""
+    return record if wanted == number else rows.get(wanted)
+
+
 def part_of(record, number, rows, e, place):
     """The part that an entry leads to: (reads, part or refusal). The entry stands at `place` in the base record."""
-    # the base record wins over a row of its number (RULES 11)
-    if e.file == number:
-        found = record
-    elif e.file in rows:
-        found = rows[e.file]
-    else:
+    found = held_by(record, number, rows, e.file)
+    if found is None:
         return 0, Refusal(17, number, place)
     if found[:4] != b"FILE":
         return 0, Refusal(2, e.file, 0)
@@ -97,15 +99,22 @@ def name_said(record, number, at):
         return "name refused %d" % refusal.number
 
 
+def run_lines(held, file, place, count):
+    """The runs of the run bytes that stand there, a line each, and behind them what refuses them (RULES 18.12)."""
+    runs, refusal, _ = all_runs(held, file, place, count)
+    told = ["hole %d" % length if start is None else "run %d %d" % (start, length) for start, length in runs]
+    return told if refusal is None else [*told, "run refused %d" % refusal.number]
+
+
 def value_said(record, number, at):
-    """Where a value or its runs stand."""
+    """(where a value or its run bytes stand, the lines under that: the runs of a value that has some)."""
     try:
         told = value(record, number, at)
     except Refusal as refusal:
-        return "value refused %d" % refusal.number
+        return "value refused %d" % refusal.number, []
     if isinstance(told, Span):
-        return "value resident %d %d" % told
-    return "value runs %d %d size %d" % told
+        return "value resident %d %d" % told, []
+    return "value runs %d %d size %d" % told, run_lines(record, number, told.start, told.count)
 
 
 def attribute_said(held, file, a, ended):
@@ -114,21 +123,32 @@ def attribute_said(held, file, a, ended):
         file, a.offset, a.ty, a.length, a.instance, name_said(held, file, a.offset), ended)
 
 
+def attribute_lines(held, file, a):
+    """The line of an attribute that has its value where it stands, and the lines under it."""
+    ended, under = value_said(held, file, a.offset)
+    return [attribute_said(held, file, a, ended), *under]
+
+
+def part_lines(record, number, rows, part):
+    """The line of a part, and the runs of its run bytes, which stand in the part's own record."""
+    held = held_by(record, number, rows, part.file)
+    return ["part %d %d %d %d %d" % part[:5], *run_lines(held, part.file, part.runs, part.count)]
+
+
 def item_lines(record, number, rows, item):
     """(lines of an item, reads of its parts)."""
     # an item of a looked-up record has its name and value there
-    held = record if item.file == number else rows[item.file]
-    a = item.attribute
+    held = held_by(record, number, rows, item.file)
     # an item of the raw walk has no parts; a resident one has its value where it stands
     if not item.rest.there:
-        ended, under, reads = value_said(held, item.file, a.offset), [], 0
-    else:
-        found, refusal, reads = parts_of(record, number, rows, item.rest)
-        # the size is the first part's data size
-        tail = "size %d" % found[0].size if refusal is None else "refused %d" % refusal.number
-        ended = "value parts %d %s" % (len(found), tail)
-        under = ["part %d %d %d %d %d" % part[:5] for part in found]
-    return [attribute_said(held, item.file, a, ended)] + under, reads
+        return attribute_lines(held, item.file, item.attribute), 0
+    found, refusal, reads = parts_of(record, number, rows, item.rest)
+    # the size is the first part's data size
+    tail = "size %d" % found[0].size if refusal is None else "refused %d" % refusal.number
+    said = [attribute_said(held, item.file, item.attribute, "value parts %d %s" % (len(found), tail))]
+    for part in found:
+        said += part_lines(record, number, rows, part)
+    return said, reads
 
 
 def lines(table, wanted=None, most=MOST):

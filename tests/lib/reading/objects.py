@@ -9,6 +9,9 @@ import re
 LINES = (
     ("record # size #", '{"line":"record","number":#,"size":#}'),
     ("part # # # # #", '{"line":"part","record":#,"offset":#,"vcn":#,"runs_offset":#,"runs_bytes":#}'),
+    ("run # #", '{"line":"run","start":#,"length":#}'),
+    ("hole #", '{"line":"hole","length":#}'),
+    ("run refused #", '{"line":"run refused","refusal":#}'),
     ("end reads #", '{"line":"end","reads":#}'),
     ("stopped # reads #", '{"line":"stopped","refusal":#,"reads":#}'),
     ("table refused #", '{"line":"table refused","refusal":#}'),

@@ -1,6 +1,6 @@
 """A second reading of the rules on one record that is told as the raw walk gives it (RULES 18.10)."""
 from .answers import Refusal
-from .listing import attribute_said, text_of, value_said
+from .listing import attribute_lines, text_of
 from .record import header, walk
 
 
@@ -21,7 +21,7 @@ def lines(record, number):
             yield "stopped %d" % answer.number
         else:
             # no form of parts: a list and an unknown type are told like any other
-            yield attribute_said(record, number, answer, value_said(record, number, answer.offset))
+            yield from attribute_lines(record, number, answer)
 
 
 def single(record, number=0):

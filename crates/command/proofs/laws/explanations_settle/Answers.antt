@@ -8,7 +8,7 @@ use Rattle.fields.specs.declared.Cause.TheVariants.{AttributeLong, UnknownType, 
 use Rattle.fields.specs.declared.Cause.TheVariants.{NameEnd, ValueOffset, ValueEnd, RunsOffset}
 use Rattle.fields.specs.declared.Cause.TheVariants.{ListNotResident, EntryCut, EntryShort, EntryNameCut}
 use Rattle.fields.specs.declared.Cause.TheVariants.{NoRecord, NoAttribute, PartResident, NoRoom}
-use Rattle.fields.specs.declared.Cause.TheVariants.{BadTable, BadState}
+use Rattle.fields.specs.declared.Cause.TheVariants.{BadTable, BadState, RunSize, RunCut, RunEmpty, RunRange}
 use Rattle.command.specs.Explain.{explained}
 use Rattle.command.specs.declared.explain.TheConstants.{CAUSES}
 use Rattle.command.proofs.laws.explanations_settle.Goals as goal
@@ -36,6 +36,10 @@ found PartResident = refl
 found NoRoom = refl
 found BadTable = refl
 found BadState = refl
+found RunSize = refl
+found RunCut = refl
+found RunEmpty = refl
+found RunRange = refl
 
 -- what is found passed the test
 same : (n m : ℕ) → (m == n) ≡ true → m ≡ n

@@ -9,4 +9,4 @@ returns-clause-front c = (_, c.fill-end.ensures.none_lost ∙ ap lines_text (c.o
 
 pub returns-clause-whole : goal.returns-clause-whole
 returns-clause-whole c =
-    nothing_left _ _ _ _ (c.fill-end.ensures.none_lost ∙ ap lines_text (c.of_any-lines.ensures _)) c.is_done.ensures
+    nothing_left _ _ _ _ (c.fill-end.ensures.none_lost ∙ ap lines_text (c.of_any-lines.ensures _)) (c.is_done.ensures _)

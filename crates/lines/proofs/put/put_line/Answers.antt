@@ -7,5 +7,9 @@ returns-in-Stopped c = rw c.in-Stopped.is (said (both (both c.put_words-end-in-S
     c.put_words-end-in-Stopped-2.ensures) c.put_byte-in-Stopped.ensures) (search rules) (omega arith))
 
 pub returns-in-Record : goal.returns-in-Record
-returns-in-Record c = rw c.in-Record.is (said (both (both c.put_words-end.ensures c.put_words-end-in-Record.ensures)
-    c.put_byte.ensures) (search rules) (omega arith))
+returns-in-Record c = rw c.in-Record.is (said (both (both c.put_words-end-in-Record.ensures
+    c.put_words-end-in-Record-2.ensures) c.put_byte-in-Record.ensures) (search rules) (omega arith))
+
+pub returns-in-RunsRefused : goal.returns-in-RunsRefused
+returns-in-RunsRefused c = rw c.in-RunsRefused.is (said (both c.put_words-end.ensures c.put_byte.ensures) (search rules)
+    (omega arith))
