@@ -6,14 +6,14 @@ from lib import reading, rust, suite
 from lib.asking import LAST
 from lib.building import (
     END, NUMBERS_BYTES, ROW_BYTES, entry, head, list_of, non_resident, packed_table, record, resident, table,
-    zero_record,
+    with_used, zero_record,
 )
 from lib.on_items import FIRST, FRESH, KINDS, NEXT, WALK, Items, Question, lines_of
 from lib.reading import items
 from lib.reading.items import NO_KEY, NO_LIST, Key, Rest, State
 
 # All that items can refuse by. 8, 9, 12, 19 and 20 belong to names, values and parts.
-REFUSALS = {1, 2, 3, 4, 5, 6, 7, 10, 11, 13, 14, 15, 16, 17, 18, 21, 22}
+REFUSALS = {1, 2, 3, 4, 5, 6, 7, 10, 11, 13, 14, 15, 16, 17, 18, 21, 22, 27, 28}
 
 # What a record looks like that most cases start from: 40 with a list at 80, and records 41 and 42 that it may name.
 RESIDENT, SPLIT = resident(0x80, 1), non_resident(0x80, 2)
@@ -53,6 +53,8 @@ def sample():
         Question(NEXT, r, t, state=State(LAST, Rest(True, 5, 4), Key(True, 2 ** 32 - 1, 65535))),
         Question(FIRST, r[:64], t), Question(WALK, r, t[:19]), Question(WALK, r, t, turns=2),
         Question(WALK, r, t, turns=0),
+        *(Question(kind, with_used(r, used), t, ty=0x30) for kind in KINDS for used in (79, 257)),
+        Question(WALK, r, files(r, other=with_used(HELD, 79))), Question(WALK, r, files(r, other=with_used(HELD, 257))),
     )
     return [test.counted(q, test.expected(q)) for q in questions]
 
@@ -60,9 +62,8 @@ def sample():
 # The whole case (RULES 18), and what is easily got wrong.
 
 def test_the_whole_case(test):
-    """The walk over the whole case, and over one whose second attribute lies behind the used size, which is not
-    consulted."""
-    for used in (116, 88):
+    """The walk over the whole case, and over ones whose used size is another that does not refuse."""
+    for used in (116, 112, 128):
         r = record(128, resident(16, 0, 32, 8), resident(128, 1), used=used)
         test.put_literal(
             r, table({40: r}),
@@ -127,17 +128,28 @@ def test_base_record_numbers(test):
 # Every refusal: where it is told, and the state that it leaves.
 
 def test_refusals_of_the_opening(test):
-    """21 before 1, 1 before 2, 2 before 22; the state stays as given, and nothing is read."""
+    """21 before 1, 1 before 2, 2 before 27, 27 before 22; the state stays as given, and nothing is read."""
     whole = based(list_of(entry(0x80, 41, 1)))
+    above = with_used(whole, 257)
     odd = State(77, Rest(True, 3, 2), Key(True, 5, 6))
     for bad, place in ((files(whole)[:19], 0), (files(whole)[:-1], 44)):
         test.put_call(whole, bad, odd, "refused 21 0 %d left 77 1 3 2 1 5 6 reads 0" % place)
         test.put_call(b"", bad, odd, "refused 21 0 %d left 77 1 3 2 1 5 6 reads 0" % place)
-    for short in (b"", whole[:56], whole[:255], whole[:248], whole + bytes(8), bytes(4104)):
+        test.put_call(above, bad, odd, "refused 21 0 %d left 77 1 3 2 1 5 6 reads 0" % place)
+    for short in (b"", whole[:56], whole[:255], whole[:248], whole + bytes(8), bytes(4104), above[:248]):
         test.put_call(short, files(whole), odd, "refused 1 40 0 left 77 1 3 2 1 5 6 reads 0")
-    test.put_call(b"FILF" + whole[4:], files(whole), odd, "refused 2 40 0 left 77 1 3 2 1 5 6 reads 0")
-    test.put_call(whole, files(whole), odd, "refused 22 40 0 left 77 1 3 2 1 5 6 reads 0")
-    lent = ((whole, files(whole)[:19]), (whole[:248], files(whole)), (b"FILF" + whole[4:], files(whole)), (b"", b""))
+    for bad in (whole, above):
+        test.put_call(b"FILF" + bad[4:], files(whole), odd, "refused 2 40 0 left 77 1 3 2 1 5 6 reads 0")
+    for used in (257, 2 ** 32 - 1):
+        given = with_used(whole, used)
+        test.put_call(given, files(whole), odd, "refused 27 40 0 left 77 1 3 2 1 5 6 reads 0")
+        test.put_literal(given, files(whole), "refused 27 40 0 left 56 0 0 0 0 0 0 reads 0")
+    for used in (256, 80, 0):
+        test.put_call(with_used(whole, used), files(whole), odd, "refused 22 40 0 left 77 1 3 2 1 5 6 reads 0")
+    lent = (
+        (whole, files(whole)[:19]), (whole[:248], files(whole)), (b"FILF" + whole[4:], files(whole)), (b"", b""),
+        (above, files(whole)),
+    )
     for kind in (FIRST, WALK, FRESH):
         for r, t in lent:
             test.put(kind, r, t, ty=0x80)
@@ -155,6 +167,43 @@ def test_refusals_of_the_raw_walk(test):
         if number == 3:
             lines = ["item 40 136 48 112 1 5 rest 0 0 0 left 248 0 0 0 1 128 2 reads 1", refused]
         test.put_literal(r, files(r), FIRST_LINE, SPLIT_LINE, *lines)
+
+
+def test_stale_attributes_of_the_raw_walk(test):
+    """28: an attribute that ends past the used size, at that place, for good; a list there is not opened."""
+    one, two = list_of(entry(0x80, 41, 2)), resident(0x40, 7)
+    last = (
+        "item 40 136 64 24 1 7 rest 0 0 0 left 160 0 0 0 1 128 2 reads 1", "end left 160 0 0 0 1 128 2 reads 0")
+    for used, lines in (
+        # the end marker stands from 160 to 164
+        (256, last), (163, last), (160, last),
+        (159, ["refused 28 40 136 left 136 0 0 0 1 128 2 reads 0"] * 2),
+        (136, ["refused 28 40 136 left 136 0 0 0 1 128 2 reads 0"] * 2),
+    ):
+        # the allocated size says otherwise, or nothing
+        for allocated in (256, 0, used):
+            r = record(256, resident(0x10), one, two, used=used, allocated=allocated)
+            test.put_literal(r, files(r), FIRST_LINE, SPLIT_LINE, *lines)
+    # the list that a call closes on its way stays closed, and one that is stale stays shut, whatever it is
+    for held in (one, head(0x20, 16), resident(0x20, 9, 32, 0, 33), non_resident(0x20, 9)):
+        r = record(256, resident(0x10), held, two, used=79 + len(held))
+        test.put_literal(r, files(r), FIRST_LINE, "refused 28 40 80 left 80 0 0 0 0 0 0 reads 0")
+    # an unknown type is no item there
+    r = record(256, resident(0x10), resident(0x11), used=103)
+    test.put_literal(r, files(r), FIRST_LINE, "refused 28 40 80 left 80 0 0 0 0 0 0 reads 0")
+    # used size 0 with an attribute in front, and with the end marker
+    r = record(256, resident(0x10), used=0)
+    test.put_literal(r, files(r), "refused 28 40 56 left 56 0 0 0 0 0 0 reads 0")
+    r = record(256, used=0)
+    test.put_literal(r, files(r), "end left 56 0 0 0 0 0 0 reads 0")
+
+
+def test_a_list_behind_the_used_size(test):
+    """A list that is open is read wherever it lies in the record: 28 is asked of attributes, not of entries."""
+    r = with_used(based(list_of(entry(0x80, 41, 2))), 80)
+    test.put_call(
+        r, files(r), State(256, Rest(True, 104, 130), NO_KEY),
+        "item 41 80 128 64 0 2 rest 1 104 130 left 256 1 130 130 1 128 2 reads 3")
 
 
 def test_refusals_of_a_list(test):
@@ -251,21 +300,45 @@ def test_refusals_of_a_lookup(test):
     listed(test, entry(0x80, 41, 2), entry(0x90, 41, 1), THIRD, other=other, lines=(
         BEGIN.replace(" 80 128", " 56 128").replace("reads 4", "reads 3"),
         "refused 6 41 120 left 184 1 156 182 0 0 0 reads 3", *after))
+    # 28 comes before 6, and what it refuses is no read; where the attribute ends with the used size 6 is told
+    for used, refused in (
+        (144, "refused 6 41 120 left 184 1 156 182 0 0 0 reads 3"),
+        (143, "refused 28 41 120 left 184 1 156 182 0 0 0 reads 2"),
+    ):
+        listed(test, entry(0x80, 41, 2), entry(0x90, 41, 1), THIRD, other=with_used(other, used), lines=(
+            BEGIN.replace(" 80 128", " 56 128").replace("reads 4", "reads 3"), refused, *after))
+    # 27 and 28 clear the key too: the third entry is that of the first
+    for used, refused in (
+        (257, "refused 27 41 0 left 184 1 156 182 0 0 0 reads 1"),
+        (79, "refused 28 41 56 left 184 1 156 182 0 0 0 reads 1"),
+    ):
+        listed(test, THIRD, entry(0x80, 41, 7), THIRD, other=with_used(HELD, used), lines=(
+            "item 42 56 128 64 0 2 rest 1 104 182 left 184 1 130 182 1 128 2 reads 3", refused, *after))
 
 
 def test_refusals_in_the_record_looked_up(test):
-    """2 at 0 of that record; 3, 4 and 5 with its number and the attribute's offset."""
+    """2 and 27 at 0 of that record; 3, 4, 5 and 28 with its number and the attribute's offset."""
     after = (
         "item 42 56 128 64 0 2 rest 1 130 156 left 160 1 156 156 1 128 2 reads 2",
         "item 40 160 48 24 1 5 rest 0 0 0 left 184 0 0 0 1 128 2 reads 1",
         "end left 184 0 0 0 1 128 2 reads 0",
     )
-    listed(test, entry(0x80, 41, 1), THIRD, other=b"FILF" + HELD[4:], lines=(
-        "refused 2 41 0 left 160 1 130 156 0 0 0 reads 2", *after))
+    above = with_used(HELD, 257)
+    for other, number in ((HELD, 2), (above, 2), (above, 27), (with_used(HELD, 2 ** 32 - 1), 27)):
+        listed(test, entry(0x80, 41, 1), THIRD, other=b"FILF" + other[4:] if number == 2 else other, lines=(
+            "refused %d 41 0 left 160 1 130 156 0 0 0 reads 2" % number, *after))
+    # the second attribute is stale: the first one is found all the same
+    listed(test, entry(0x80, 41, 1), THIRD, other=with_used(HELD, 143), lines=(
+        "item 41 56 128 24 1 1 rest 0 0 0 left 160 1 130 156 0 0 0 reads 3", *after))
     for other, number, at in (
         (record(256, resident(0x80, 1, 188), end=b"\x10\0\0\0" * 3), 3, 244),
         (record(256, RESIDENT, head(0x80, 15, instance=2)), 4, 80),
         (record(256, RESIDENT, head(0x80, 177, instance=2)), 5, 80),
+        (with_used(HELD, 143), 28, 80), (with_used(HELD, 80), 28, 80),
+        # each of 3, 4 and 5 in front of 28
+        (record(256, resident(0x80, 1, 188), end=b"\x10\0\0\0" * 3, used=244), 3, 244),
+        (record(256, RESIDENT, head(0x80, 15, instance=2), used=80), 4, 80),
+        (record(256, RESIDENT, head(0x80, 177, instance=2), used=80), 5, 80),
     ):
         listed(test, entry(0x80, 41, 2), THIRD, other=other, lines=(
             "refused %d 41 %d left 160 1 130 156 0 0 0 reads 3" % (number, at), *after))
@@ -282,6 +355,12 @@ def test_the_first_of_a_type(test):
         (based(list_of(entry(0x80, 41, 2))), 0x80, "item 41 80 128 64 0 2 rest 1 104 130 reads 5"),
         (based(list_of(entry(0x80, 41, 2))), 0x20, "refused 18 40 0 reads 6"),
         (based(list_of(entry(0x80, 99, 2))), 0x30, "refused 17 40 104 reads 3"),
+        # 27 of the base record; 28 in front of 6, and behind the item that is asked for
+        (based(used=257), 0x10, "refused 27 40 0 reads 0"),
+        (based(resident(0x11, 4), used=103), 0x30, "refused 28 40 80 reads 1"),
+        (based(resident(0x11, 4), used=104), 0x30, "refused 6 40 80 reads 2"),
+        (based(resident(0x11, 4), used=80), 0x10, "item 40 56 16 24 1 0 rest 0 0 0 reads 1"),
+        (based(used=79), 0x10, "refused 28 40 56 reads 0"),
     ):
         test.put_first(r, files(r), ty, line)
 
@@ -344,6 +423,16 @@ def test_forged_states(test):
             test.put(NEXT, r, t, state=State(80, Rest(True, start, end), keys[start % 6]))
 
 
+def test_used_sizes(test):
+    """Each used size of the base record, and of one that it names."""
+    r = based(list_of(entry(0x80, 41, 2), entry(0x80, 42, 2), entry(0x90, 42, 3)), list_of(entry(0x80, 41, 1)))
+    for used in (*range(50, 262), 0, 1, 2 ** 16, 2 ** 31, 2 ** 32 - 1):
+        test.put_walk(with_used(r, used), files(r))
+        test.put_walk(r, files(r, other=with_used(HELD, used)))
+        for ty in (0x80, 0x30):
+            test.put(FIRST, with_used(r, used), files(r), ty=ty)
+
+
 def test_lengths_of_records(test):
     """Record sizes around their limits, in tables of other sizes and of their own."""
     for size in (*range(0, 80), *range(120, 140), *range(4080, 4112)):
@@ -404,11 +493,18 @@ def test_the_differences_page(test):
     one = zero_record(112, (56, list_of(entry(0x80, 41, sequence=0), fill=b"\0")))
     refused = "refused %d 40 80 left 112 1 106 106 0 0 0 reads 2"
     test.put_literal(one, table({40: one}), refused % 17, end % 112)
-    other = zero_record(112, (24, b"\1"), (56, resident(0x80)), (80, END))
+    # its used size is above its allocated size
+    other = zero_record(112, (56, resident(0x80)), (80, END), allocated=0)
     test.put_literal(
         one, table({40: one, 41: other}), "item 41 56 128 24 1 0 rest 0 0 0 left 112 1 106 106 0 0 0 reads 3",
         end % 112)
     test.put_literal(one, table({40: one, 41: zero_record(112, (56, END))}), refused % 18, end % 112)
+    # 28, in the record that is looked up and in the base record
+    stale = zero_record(112, (56, resident(0x80)), (80, END), used=79)
+    test.put_literal(
+        one, table({40: one, 41: stale}), "refused 28 41 56 left 112 1 106 106 0 0 0 reads 2", end % 112)
+    stale = zero_record(72, (56, head(0x10, 16)), used=71)
+    test.put_literal(stale, table({40: stale}), "refused 28 40 56 left 56 0 0 0 0 0 0 reads 0")
     # 17, 18
     one = zero_record(112, (56, list_of(entry(0x80, 40, sequence=0), fill=b"\0")))
     far = 2 ** 48 + 40

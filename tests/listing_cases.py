@@ -8,9 +8,9 @@ from typing import NamedTuple
 
 from lib import building
 from lib.building import END, FILE, entry, head, list_of, record, table
-from lib.damaging import damaged
+from lib.damaging import damaged, with_other_used
 from lib.random_runs import in_table
-from lib.random_tables import chained_table, hurt_outside, large_table, random_table
+from lib.random_tables import OTHER_USED, chained_table, hurt_outside, large_table, random_table
 
 BASE, OTHER, THIRD, FOURTH = 40, 41, 42, 43
 MOST = 65536
@@ -169,7 +169,86 @@ def walks():
     yield Case(
         "first-0", of(FRONT)[:32 + 20] + b"\0\0" + of(FRONT)[32 + 22:], "the word FILE is taken for a type",
         "stopped 5 reads 0", (HEADER,))
-    yield Case("used-size", of(FRONT, plain(1), used=60), "used size is not consulted", "end reads 2", (FRONT_LINE,))
+
+
+def used_sizes():
+    """27 and 28 of the base record, each beside a table that lacks it, and what comes before them or behind."""
+    second = "attr 40 80 16 24 1 name 0 0 value resident 104 0"
+    for used, last in ((256, "end reads 2"), (257, "stopped 27 reads 0"), (2 ** 32 - 1, "stopped 27 reads 0")):
+        yield Case(
+            "used-%d" % used, of(FRONT, plain(1), used=used), "a record of 256 bytes, used size %d" % used, last,
+            (HEADER, FRONT_LINE, second) if used == 256 else (HEADER,), whole=True)
+    # the two attributes end at 80 and at 104, and the end marker at 108
+    for used, last, lines in (
+        (104, "end reads 2", (FRONT_LINE, second)), (103, "stopped 28 reads 1", (FRONT_LINE,)),
+        (80, "stopped 28 reads 1", (FRONT_LINE,)), (79, "stopped 28 reads 0", ()), (0, "stopped 28 reads 0", ())):
+        yield Case(
+            "used-%d" % used, of(FRONT, plain(1), used=used), "attributes that end at 80 and 104, used size %d" % used,
+            last, (HEADER, *lines), whole=True)
+    yield Case("used-0-none", of(used=0), "the end marker behind the used size", "end reads 0", (HEADER,), whole=True)
+    yield Case(
+        "used-0-left-3", of(first=253, used=0), "3 bytes left, behind the used size: the end", "end reads 0", (HEADER,),
+        whole=True)
+    yield Case(
+        "used-above-allocated", of(FRONT, used=256, allocated=8), "the allocated size is not compared", "end reads 1",
+        LOOKUP, whole=True)
+    yield Case(
+        "used-257-not-file", of(FRONT, magic=b"BAAD", used=257), "2 before 27", "stopped 2 reads 0", (HEADER,),
+        whole=True)
+    yield Case(
+        "used-257-list", of(list_of(to(BASE), cut=1), used=257), "27 before all that the walk refuses by",
+        "stopped 27 reads 0", (HEADER,), whole=True)
+    for number, about, attributes in (
+        (3, "8 bytes left", [plain(1, 168), b"\x10\0\0\0" * 2]), (4, "length 15", [bare(0x10, 15)]),
+        (5, "one byte more than is left", [bare(0x10, 177)])):
+        given = len(attributes) - 1
+        end = 80 + (168 if given else 0)
+        yield Case(
+            "used-before-%d" % number, of(FRONT, *attributes, used=end, end=END if number != 3 else b""),
+            "%d before 28: %s" % (number, about), "stopped %d reads %d" % (number, 1 + given), LOOKUP)
+    yield Case(
+        "used-list", of(FRONT, LISTED, AFTER, used=135, others=[[stream()]]), "a stale list is not opened",
+        "stopped 28 reads 1", LOOKUP, whole=True)
+    yield Case(
+        "used-list-bad", of(FRONT, stream(9, ty=0x20), used=143), "28 before 13", "stopped 28 reads 1", LOOKUP,
+        whole=True)
+    yield Case(
+        "used-unknown", of(FRONT, plain(1, ty=0x11), used=103), "a stale attribute of unknown type is no item",
+        "stopped 28 reads 1", LOOKUP, whole=True)
+
+
+def used_sizes_looked_up():
+    """27 and 28 in a record looked up: by the walk, and by parts."""
+    # 41 holds an attribute up to 80 and the stream up to 144
+    held = [plain(), stream()]
+    found = ("attr 41 80 128 64 1 name 0 0 value parts 1 size 4000", "part 41 80 0 144 0")
+    behind = "attr 40 112 16 24 5 name 0 0 value resident 136 0"
+    for used, last, lines in (
+        (256, "end reads 8", (*found, behind)), (144, "end reads 8", (*found, behind)),
+        (143, "stopped 28 reads 3", ()), (80, "stopped 28 reads 3", ()), (79, "stopped 28 reads 2", ()),
+        (257, "stopped 27 reads 2", ()), (2 ** 32 - 1, "stopped 27 reads 2", ())):
+        yield Case(
+            "used-%d-lookup" % used, of(list_of(to()), AFTER, others=[record(256, *held, used=used)]),
+            "in a record looked up: attributes that end at 80 and 144, used size %d" % used, last, (HEADER, *lines),
+            whole=True)
+    yield Case(
+        "used-257-not-file-lookup", of(list_of(to()), others=[record(256, *held, magic=b"FILF", used=257)]),
+        "2 before 27 in a record looked up", "stopped 2 reads 2", (HEADER,), whole=True)
+    # an attribute of unknown type, from 80 to 104
+    unknown = [plain(), plain(1, ty=0x81), stream()]
+    for used, last in ((104, "stopped 6 reads 4"), (103, "stopped 28 reads 3")):
+        yield Case(
+            "used-%d-unknown-lookup" % used, of(list_of(to()), others=[record(256, *unknown, used=used)]),
+            "28 before 6 in a search, and no read" if used == 103 else "6 where its attribute ends with the used size",
+            last, (HEADER,), whole=True)
+    yield Case(
+        "used-stale-stream", of(list_of(to()), AFTER, others=[record(256, plain(), stream(), stream(2), used=144)]),
+        "an item in front of a stale tail", "end reads 8", (HEADER, *found, behind), whole=True)
+    # a base record's own part that is stale: the walk passes its entry over
+    yield Case(
+        "used-base-part", of(list_of(to(), to(BASE)), plain(5), stream(), used=160, others=[[stream()]]),
+        "the base record's own part is stale, in the parts and in the walk", "stopped 28 reads 10",
+        (HEADER, LINE + "1 refused 28", GOOD, "attr 40 136 16 24 5 name 0 0 value resident 160 0"), whole=True)
 
 
 # 24 for FRONT and 56 for the list: it stands at 80, its entry at 104, the next attribute at 136
@@ -518,6 +597,18 @@ def parts_refused():
     yield refused(
         3, "3", "3 in the second part's record", "end reads 9", TWO, record(256, plain(0, 192), end=b"\x80\0\0\0"),
         more=BEHIND)
+    # 27 and 28, and the other side of each: a stale part, and one in front of a stale attribute
+    yield refused(
+        27, "27", "the second part's used size is above its length", "end reads 8", TWO,
+        record(256, stream(), used=257), more=BEHIND)
+    yield refused(
+        28, "28", "the second part is stale", "end reads 8", TWO, record(256, stream(), used=119), more=BEHIND)
+    for used in (256, 120):
+        yield Case(
+            "parts-used-%d" % used,
+            of(list_of(*TWO), AFTER, others=[[stream()], record(256, stream(lowest=7), stream(2), used=used)]),
+            "a second part that ends at 120, used size %d" % used, "end reads 9",
+            (HEADER, LINE + "2 size 4000", GOOD, "part 42 56 7 120 0", *BEHIND), whole=True)
     yield refused(4, "4", "4 in the second part's record", "end reads 8", TWO, [bare(0x80, 15, 1)], more=BEHIND)
     yield refused(5, "5", "5 in the second part's record", "end reads 8", TWO, [bare(0x80, 201, 1)], more=BEHIND)
     yield refused(
@@ -553,24 +644,27 @@ def parts_refused_by_entries():
         17, "17", "the table lacks the third part's record", "end reads 11", [to(), to(), to(FOURTH)], count=2)
 
 
-# as many entries as a list of a record of 4,096 bytes can have (tests/cases/README.md)
-MOST_ENTRIES = 156
+# as many entries as a list of a record of 4,096 bytes can have (tests/cases/README.md), and the type of the first
+MOST_ENTRIES, OVER = 156, 0x100
 
 
 def longest_list(entries):
-    """A record of 4,096 bytes whose one attribute is a list of so many entries. It stands at 11, over the record's own
-    header; bytes 20 and 21, its offset, fall on the list's name fields."""
-    text = bytearray(record(4096))
-    listed = struct.pack("<IIBBHHHIHH", 0x20, 4085, 0, 11, 0, 0, 9, 4056, 29, 0)
-    text[11:11 + len(listed)] = listed
-    text[20:22] = struct.pack("<H", 11)
-    text[40:4096] = b"".join(entries)
-    assert len(text) == 4096
-    return bytes(text)
+    """A record of 4,096 bytes whose one attribute is a list of so many entries of type OVER.
+
+    It stands at 28, behind the used size, and its value begins at its own byte 8. So the first entry lies over the
+    attribute's header: its type over the form, the name's length and its offset, its length over the flags, and its
+    lowest VCN over the value's length and offset.
+    """
+    inside = bytearray(b"".join(entries))
+    inside[8:16] = struct.pack("<IHH", len(inside), 8, 0)
+    text = record(4096, struct.pack("<II", 0x20, 8 + len(inside)) + inside, first=28)
+    assert len(inside) == 26 * MOST_ENTRIES and text[28 + 8 + len(inside):] == END
+    return text
 
 
-# How many holes full_of_holes has: one of two bytes after another in 4,084 bytes, but for two of four bytes.
-MOST_HOLES = (4096 - 12 - 2 * 4) // 2 + 2
+# How many holes full_of_holes has: one of two bytes after another in 4,084 bytes, but for two of four bytes and one of
+# six.
+MOST_HOLES = (4096 - 12 - 2 * 4 - 6) // 2 + 3
 
 
 def full_of_holes(k):
@@ -578,12 +672,15 @@ def full_of_holes(k):
     records apart).
 
     The attribute stands at 4, behind the word FILE, and its runs begin at its byte 8: 01 01 is a hole of one cluster,
-    and the header's fields are what holes make of them. Two of them may not be holes: the record's first attribute
-    offset, and the runs offset. A hole whose length has three bytes lies over each.
+    and the header's fields are what holes make of them. Three of them may not be holes: the record's first attribute
+    offset, its used size, which must be its length, and the runs offset. A hole whose length has three bytes, five and
+    three lies over each.
     """
-    text = bytearray(struct.pack("<4sII", FILE, 0x80, 4092).ljust(4096, b"\1"))
+    text = bytearray(struct.pack("<4sII", FILE, OVER, 4092).ljust(4096, b"\1"))
     # the instance's two bytes, and the first attribute offset
     text[18:22] = struct.pack("<BBH", 3, k, 4)
+    # the used size, behind two bytes of a hole
+    text[22:28] = struct.pack("<BBI", 5, 1, 4096)
     # the runs offset, behind two bytes of a hole
     text[34:38] = struct.pack("<BBH", 3, 1, 8)
     return bytes(text), 3 + 256 * k
@@ -593,7 +690,7 @@ def most_lines():
     """(table, how many lines its listing has): the most that we found for a base record of 4,096 bytes. As many entries
     as fit, each an item with one part, since the next one leads to another, and each part with as many runs as fit."""
     held = [full_of_holes(k) for k in (1, 2)]
-    entries = [to(OTHER + k % 2, held[k % 2][1]) for k in range(MOST_ENTRIES)]
+    entries = [to(OTHER + k % 2, held[k % 2][1], OVER) for k in range(MOST_ENTRIES)]
     records = {OTHER + k: text for k, (text, _) in enumerate(held)}
     # the first and the last line; and of each entry an item, a part, and its runs
     return table({BASE: longest_list(entries), **records}), 2 + MOST_ENTRIES * (2 + MOST_HOLES)
@@ -609,12 +706,13 @@ def most_parts():
         "parts-154", of(list_of(*entries), size=4096, others=others), "as many parts as fit behind an ordinary header",
         "end reads 541",
         ("attr 41 56 128 64 1 name 0 0 value parts 154 size 4000", "part 41 56 1 120 0", "part 42 80 2 144 0"))
+    others = [[stream(lowest=1, ty=OVER)], [plain(), stream(lowest=2, ty=OVER)]]
     others = {OTHER + k: record(4096, *held) for k, held in enumerate(others)}
-    entries = [to(OTHER + k % 2) for k in range(MOST_ENTRIES)]
+    entries = [to(OTHER + k % 2, ty=OVER) for k in range(MOST_ENTRIES)]
     yield Case(
         "parts-156", table({BASE: longest_list(entries), **others}), "as many parts as fit at all", "end reads 548",
         (
-            "record 40 size 4096", "attr 41 56 128 64 1 name 0 0 value parts 156 size 4000", "part 41 56 1 120 0",
+            "record 40 size 4096", "attr 41 56 256 64 1 name 0 0 value parts 156 size 4000", "part 41 56 1 120 0",
             "part 42 80 2 144 0"))
     # Instances in turn, so that each entry is an item with one part, which the next one ends: more text than goes to
     # one write. The list 1; the walk's 154 entries, and as many parts, 77 each with one attribute and 77 with two; 153
@@ -671,21 +769,22 @@ def most_records():
 
 def most_reads():
     """The most reads."""
-    # As near as we came to the most that a listing can read (docs/RULES.md, 17.4): of 1,024 bytes 5,001 of 5,173. Each
+    # As near as we came to the most that a listing can read (docs/RULES.md, 17.4): of 1,024 bytes 4,881 of 5,173. Each
     # entry is an item of its own, found behind nearly all other attributes of its record, by the walk and again by its
     # parts.
-    for size, entries, spare, found in ((1024, 39, 4, 63), (4096, 157, 8, 255)):
-        # an attribute and an entry, two searches, and the entry again; every second search is one shorter but for the
-        # spare ones
-        reads = entries * (3 + 2 * found) - 2 * (entries // 2 - spare)
+    for size, entries, spare, found in ((1024, 38, 8, 63), (4096, 156, 12, 255)):
+        # the attribute in front; then an attribute and an entry, two searches, and the entry again; every second search
+        # is one shorter but for the spare ones
+        reads = 1 + entries * (3 + 2 * found) - 2 * (entries // 2 - spare)
         yield Case(
             "reads-%d" % size, reads_most(size, entries, spare), "the most reads that we found for this size",
             "end reads %d" % reads,
             (
-                "record 40 size %d" % size, "attr 26 %d 32 16 1 name 0 0 value parts 0 refused 7" % (size - 24),
-                "attr 27 %d 32 16 2 name 0 0 value parts 0 refused 7" % (size - 24),
-                "attr 26 %d 32 16 1 name 0 0 value parts 0 refused 7" % (size - 24),
-                "attr 26 %d 32 16 2 name 0 0 value parts 0 refused 7" % (size - 40)))
+                "record 40 size %d" % size, "attr 40 12 16 16 0 name 0 0 value refused 7",
+                "attr 26 %d 32 16 1 name 0 0 value parts 0 refused 7" % (size - 20),
+                "attr 27 %d 32 16 2 name 0 0 value parts 0 refused 7" % (size - 20),
+                "attr 26 %d 32 16 1 name 0 0 value parts 0 refused 7" % (size - 20),
+                "attr 26 %d 32 16 2 name 0 0 value parts 0 refused 7" % (size - 36)))
 
 
 def reads_most(size, entries, spare):
@@ -695,20 +794,22 @@ def reads_most(size, entries, spare):
     lowest VCN the attribute's first fields, and its record number the value's length, 26, and offset, 0. An entry of 27
     bytes names record 27: so many are spare. Attributes are as short as they can be, so that the parts refuse the one
     found by 7, behind the search. Entries of two instances in turn, or the skip key would pass over them.
+
+    In each record the first attribute stands at 12, its header over the record's own: its form is the first attribute
+    offset, and its flags are the used size. A list can't lie there: its value's offset would be one of the two.
     """
-    # the first attribute stands at 6, so that its instance is the first attribute offset
-    text = bytearray(b"FILE\0\0")
+    front = head(0x10, 16, resident=False, flags=size)
+    front = front[:8] + bytes((12,)) + front[9:]
+    text = bytearray(b"FILE".ljust(12, b"\0") + front)
     for k in range(entries):
         length = 27 if k % 2 and k < 2 * spare else 26
         text += struct.pack("<IHBBQQH", 0x20, length, 0, 0, 0, length, 1 + k % 2).ljust(length, b"\0")
-    text[20:22] = struct.pack("<H", 6)
     assert len(text) == size
     records = {BASE: bytes(text)}
     for number, instances in ((26, (2, 1)), (27, (2,))):
-        # the first one's flags are the first attribute offset
-        held = head(0x10, 16, flags=8) + bare(0x10, 16) * ((size - 8) // 16 - 1 - len(instances))
+        held = front + bare(0x10, 16) * ((size - 12) // 16 - 1 - len(instances))
         held += b"".join(bare(0x20, 16, instance, is_resident=False) for instance in instances)
-        records[number] = record(size, held, first=8, end=b"")
+        records[number] = record(size, held, first=12, end=b"")
     return table(records, BASE)
 
 
@@ -780,7 +881,8 @@ def random_listed(chance):
             held.append(text)
             left -= len(text)
         magic = b"FILE" if chance.random() < 0.97 else b"BAAD"
-        records[n] = record(size, *held, magic=magic, end=END if chance.random() < 0.9 else b"")
+        whole = record(size, *held, magic=magic, end=END if chance.random() < 0.9 else b"")
+        records[n] = with_other_used(whole, chance, OTHER_USED)
     return table(records, base, gap=chance.choice((0, 0, 4)))
 
 
@@ -836,10 +938,9 @@ def missing(case, listing):
 
 
 KINDS = (
-    tables, table_limits, walks, walks_cut, walks_to_unknown_types, walks_to_lists, walks_along_lists, names, values,
-    looked_up, runs, runs_of_any_size, runs_of_parts, parts, parts_behind, parts_refused, parts_refused_by_entries,
-    most_parts, longest_lines, most_records,
-    most_reads,
+    tables, table_limits, walks, walks_cut, used_sizes, used_sizes_looked_up, walks_to_unknown_types, walks_to_lists,
+    walks_along_lists, names, values, looked_up, runs, runs_of_any_size, runs_of_parts, parts, parts_behind,
+    parts_refused, parts_refused_by_entries, most_parts, longest_lines, most_records, most_reads,
 )
 
 

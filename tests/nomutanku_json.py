@@ -55,7 +55,7 @@ def texts():
     yield from map(directory.rows, tables)
     for number, record in random_records.real_records():
         yield from (single(record, number), single(record[:-1], number), single(b"BAAD" + record[4:], number))
-        yield single(record[:64], number)
+        yield from (single(record[:64], number), single(building.with_used(record[:64], 64), number))
 
 
 def test_every_form_is_met_with(test):

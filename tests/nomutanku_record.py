@@ -61,8 +61,8 @@ def test_attributes_of_every_kind(test):
         building.resident(0x11, 2, 24), building.non_resident(0x80, 3, 72, size=7),
         building.non_resident(0x20, 4, 64, runs=65),
         building.resident(0x30, 5, 40, 1, 40), building.resident(0x30, 6, 24, name=24, units=1))
-    by_hand(test, building.record(512, *attributes, used=9, allocated=8), 5, (
-        b"record 5 size 512\nheader sequence 5 links 2 first 56 flags 1 used 9 allocated 8\n"
+    by_hand(test, building.record(512, *attributes, used=509, allocated=8), 5, (
+        b"record 5 size 512\nheader sequence 5 links 2 first 56 flags 1 used 509 allocated 8\n"
         b"attr 5 56 16 24 0 name 0 0 value resident 80 0\n"
         b"attr 5 80 32 56 1 name 0 0 value resident 104 26\n"
         b"attr 5 136 17 24 2 name 0 0 value resident 160 0\n"
@@ -83,8 +83,8 @@ HELD = (
 
 def test_runs_of_every_kind(test):
     """Any attribute that is not resident has its runs under it, each begins anew, and a refusal ends those of one."""
-    by_hand(test, building.record(512, *HELD, used=9, allocated=8), 5, (
-        b"record 5 size 512\nheader sequence 5 links 2 first 56 flags 1 used 9 allocated 8\n"
+    by_hand(test, building.record(512, *HELD, used=509, allocated=8), 5, (
+        b"record 5 size 512\nheader sequence 5 links 2 first 56 flags 1 used 509 allocated 8\n"
         b"attr 5 56 32 72 1 name 0 0 value runs 120 8 size 7\nrun 10 5\nhole 8\nrun 12 1\n"
         b"attr 5 128 17 72 2 name 0 0 value runs 192 8 size 8\nrun 3 5\nrun refused 26\n"
         b"attr 5 200 128 64 3 name 0 0 value runs 264 0 size 9\n"
@@ -101,8 +101,8 @@ def test_the_cases_of_runs(test):
         attributes = "".join(
             "attr 5 %d 128 %d 1 name 0 0 value runs %d %d size 4000\n%s" % (at, len(held), at + 64, count, under)
             for at in (56, 56 + len(held)))
-        by_hand(test, building.record(512, held, held, used=9, allocated=8), 5, (
-            "record 5 size 512\nheader sequence 5 links 2 first 56 flags 1 used 9 allocated 8\n%send\n"
+        by_hand(test, building.record(512, held, held, used=509, allocated=8), 5, (
+            "record 5 size 512\nheader sequence 5 links 2 first 56 flags 1 used 509 allocated 8\n%send\n"
             % attributes).encode())
 
     test.each(hold_case, runs.CASES)
@@ -110,16 +110,38 @@ def test_the_cases_of_runs(test):
 
 
 def test_ends(test):
-    """How the walk of a record ends: stopped by 3, 4 and 5, and whole without an end marker."""
+    """How the walk of a record ends: stopped by 3, 4, 5 and 28, and whole without an end marker."""
     head = b"record 1 size 64\nheader sequence 5 links 2 first 56 flags 1 used %d allocated 64\n"
     for end, last in ((building.END, b"end\n"), (b"\x10\0\0\0\x10\0\0\0", b"stopped 3\n")):
-        by_hand(test, building.record(64, end=end), 1, head % (56 + len(end)) + last)
+        for used in (0, 60, 64):
+            by_hand(test, building.record(64, end=end, used=used), 1, head % used + last)
     # one attribute fills the record, as its length says, or not
     filled = b"attr 1 40 16 24 0 name 0 0 value resident 64 0\nend\n"
     for length, last in ((15, b"stopped 4\n"), (25, b"stopped 5\n"), (24, filled)):
         attribute = building.head(0x10, length).ljust(20, b"\0") + b"\x18\0\0\0"
         text = building.record(64, attribute, first=40, end=b"")
         by_hand(test, text, 1, head.replace(b"first 56", b"first 40") % 64 + last)
+        # one byte of it past the used size
+        last = b"stopped 28\n" if last == filled else last
+        by_hand(test, building.with_used(text, 63), 1, head.replace(b"first 56", b"first 40") % 63 + last)
+
+
+def test_used_sizes(test):
+    """27, on both sides of its line, comes behind 1 and 2 and in front of every line; 28 ends the lines."""
+    both = [line + b"\n" for line in LINES.split(b"\n")[2:4]]
+    for used, lines, last in (
+        (128, both, b"end\n"), (112, both, b"end\n"), (111, both[:1], b"stopped 28\n"),
+        (88, both[:1], b"stopped 28\n"), (87, [], b"stopped 28\n"), (0, [], b"stopped 28\n")):
+        head = b"\n".join(LINES.split(b"\n")[:2]).replace(b"used 116", b"used %d" % used) + b"\n"
+        by_hand(test, building.with_used(RECORD, used), 40, head + b"".join(lines) + last)
+    for used in (129, 136, 2 ** 16, 2 ** 32 - 1):
+        above = building.with_used(RECORD, used)
+        by_hand(test, above, 40, b"record refused 27\n")
+        by_hand(test, b"BAAD" + above[4:], 40, b"record refused 2\n")
+        by_hand(test, above[:-1], 40, b"record refused 1\n")
+    # its own length counts, and not the allocated size, which is 128
+    by_hand(test, RECORD[:120], 40, LINES.replace(b"size 128", b"size 120"))
+    by_hand(test, RECORD[:112], 40, b"record refused 27\n")
 
 
 def test_lengths(test):
@@ -162,7 +184,8 @@ def test_damaged_records(test):
     found = test.each(lambda pair: hold(test, *pair), records)
     last = [text.split(b"\n")[-2] for text in found]
     count = {word: last.count(word) for word in (
-        b"end", b"stopped 3", b"stopped 4", b"stopped 5", b"record refused 1", b"record refused 2")}
+        b"end", b"stopped 3", b"stopped 4", b"stopped 5", b"stopped 28", b"record refused 1", b"record refused 2",
+        b"record refused 27")}
     assert sum(count.values()) == DAMAGED and min(count.values()) > DAMAGED // 200, count
     print("%d damaged records of seed %d: %s" % (DAMAGED, SEED, count))
     print("runs: %s" % random_runs.each_kind(found, DAMAGED // 100))

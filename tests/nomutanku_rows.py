@@ -29,17 +29,34 @@ def by_hand(test, text, expected):
 
 
 def test_by_hand(test):
-    """A record in use, one that is not, and one that is not FILE, in the order of the directory; with a base row and
-    without one."""
+    """A record in use, one that is not, one that is not FILE, and one whose used size is above its length, in the order
+    of the directory; with a base row and without one."""
     records = {
-        40: building.record(64, flags=1), 41: building.record(64, flags=2), 43: building.record(64, magic=b"BAAD")}
-    expected = b"row 40 56 used\nrow 41 120 free\nrow 43 184 refused 2\nend rows 3\n"
-    for base in (40, 43, 99):
+        40: building.record(64, flags=1), 41: building.record(64, flags=2), 43: building.record(64, magic=b"BAAD"),
+        44: building.record(64, used=65)}
+    expected = b"row 40 68 used\nrow 41 132 free\nrow 43 196 refused 2\nrow 44 260 refused 27\nend rows 4\n"
+    for base in (40, 43, 44, 99):
         by_hand(test, building.table(records, base), expected)
     # what stands behind the records, and gaps around the directory
     by_hand(test, building.table(records, 40) + b"more", expected)
-    gaps = b"row 40 72 used\nrow 41 136 free\nrow 43 200 refused 2\nend rows 3\n"
+    gaps = b"row 40 84 used\nrow 41 148 free\nrow 43 212 refused 2\nrow 44 276 refused 27\nend rows 4\n"
     by_hand(test, building.table(records, 40, gap=8), gaps)
+
+
+def test_used_sizes(test):
+    """27 on both sides of its line, behind 2 and in front of the flag; stale attributes are no matter of a row."""
+    attribute = building.resident(0x10, 0)
+    given = (
+        (64, b"FILE", b"used"), (65, b"FILE", b"refused 27"), (2 ** 32 - 1, b"FILE", b"refused 27"),
+        (0, b"FILE", b"used"), (63, b"FILE", b"used"), (65, b"BAAD", b"refused 2"), (64, b"BAAD", b"refused 2"))
+    for flags in (1, 0):
+        records = {
+            k: building.record(64, attribute, first=40, end=b"", used=used, magic=magic, flags=flags)
+            for k, (used, magic, _) in enumerate(given)}
+        rows = b"".join(
+            b"row %d %d %s\n" % (k, 104 + 64 * k, state if flags or state != b"used" else b"free")
+            for k, (_, _, state) in enumerate(given))
+        by_hand(test, building.table(records, 0), rows + b"end rows %d\n" % len(given))
 
 
 def test_no_rows(test):
@@ -68,7 +85,7 @@ def test_each_flag(test):
 
 
 def test_each_letter(test):
-    """Each of the four bytes of FILE tells, and nothing behind them."""
+    """Each of the four bytes of FILE tells, and nothing behind them up to the used size."""
     records = {k: bytearray(building.record(64, flags=1)) for k in range(6)}
     for k in range(6):
         records[k][k] ^= 0x20
@@ -84,14 +101,15 @@ def test_kept_tables(test):
 
 
 def test_damaged_tables(test):
-    """Tables of every kind, damaged, with records in use, free and not FILE."""
+    """Tables of every kind, damaged, with records in use, free, not FILE, and of too large a used size."""
     chance = random.Random(SEED)
     tables = []
     for text, _ in inputs.tables(DAMAGED, chance):
         whole = directory.rows(text) != REFUSED
         tables.append(inputs.with_rows_hurt(text, chance) if whole else text)
     found = b"".join(test.each(lambda text: hold(test, text), tables))
-    count = {word: found.count(word) for word in (b" used\n", b" free\n", b" refused 2\n", REFUSED, b"end rows")}
+    count = {word: found.count(word) for word in (
+        b" used\n", b" free\n", b" refused 2\n", b" refused 27\n", REFUSED, b"end rows")}
     assert min(count.values()) > DAMAGED // 10, count
     print("%d damaged tables of seed %d: %s" % (DAMAGED, SEED, count))
 

@@ -15,7 +15,7 @@ USAGE_SAID = {
 }
 
 # the refusals there are (RULES 19)
-REFUSALS = range(1, 27)
+REFUSALS = range(1, 29)
 
 
 def test_a_difference_is_noticed(test):
@@ -127,6 +127,7 @@ LENGTH = "no record: one record can't have %d bytes: 64 to 4096, in steps of 8 (
 LONG = "no record: it is longer than 4096 bytes, the most that one record has (1)"
 A_TABLE = "no record: it begins as a table does: ask for its rows, or list it (%d)"
 NOT_FILE = "no record: it begins otherwise than with FILE (2)"
+ABOVE = "no record: its used size is above its length (27)"
 # bytes that are no record, the number that refuses them, and the words of it
 NO_RECORDS = (
     (b"", 1, "no record: it is empty (1)"),
@@ -138,6 +139,10 @@ NO_RECORDS = (
     (bytes(5000), 1, LONG),
     (b"BAAD" + bytes(60), 2, NOT_FILE),
     (bytes(4096), 2, NOT_FILE),
+    (building.record(64, used=65), 27, ABOVE),
+    (building.record(4096, used=2 ** 32 - 1), 27, ABOVE),
+    (building.record(64, used=65, magic=b"BAAD"), 2, NOT_FILE),
+    (building.record(72, used=73)[:71], 1, LENGTH % 71),
     # a table, whole or the front of one, is told apart whatever its length
     (table(GOOD), 1, A_TABLE % 1),
     (table([(40, 32)]), 2, A_TABLE % 2),
@@ -164,6 +169,22 @@ def test_reasons_of_a_record_that_stops(test):
     status, out, said = test.run("record", "--number", "7", path)
     test.same((status, out.split(b"\n")[-2], said), 1, b"stopped 4",
               "%s: the listing stops: the attribute's length is under 16 (4)\n" % path)
+    path = test.file("y.bin", building.with_used(read(case("whole"))[32:], 111))
+    status, out, said = test.run("record", "--number", "7", path)
+    test.same((status, out.split(b"\n")[-2], said), 1, b"stopped 28",
+              "%s: the listing stops: the attribute ends past the record's used size (28)\n" % path)
+
+
+def test_reasons_of_used_sizes(test):
+    """A listing that 27 or 28 stops is told by its cause, and a row that 27 refuses is told by its line alone."""
+    for name, words in (
+        ("used-257", "the record's used size is above its length (27)"),
+        ("used-257-lookup", "the record's used size is above its length (27)"),
+        ("used-103", "the attribute ends past the record's used size (28)"),
+        ("used-143-lookup", "the attribute ends past the record's used size (28)")):
+        said = "%s: the listing stops: %s\n" % (case(name), words)
+        test.same(test.run("list", case(name)), 1, kept(name), said)
+    test.same(test.run("rows", case("used-257")), 0, b"row 40 32 refused 27\nend rows 1\n", "")
 
 
 def test_reasons_of_a_base_row(test):
@@ -242,7 +263,9 @@ def test_explanations(test):
     test.same(said[12][1:], b"13: the attribute list is not resident\n", "")
     test.same(said[20][1:], b"21: the table is malformed\n", "")
     test.same(said[24][1:], b"25: the run's length is 0\n", "")
-    for n in (0, 27, 256, 257 + 25, 2 ** 64 - 1):
+    test.same(said[26][1:], b"27: the record's used size is above its length\n", "")
+    test.same(said[27][1:], b"28: the attribute ends past the record's used size\n", "")
+    for n in (0, 29, 256, 257 + 27, 2 ** 64 - 1):
         test.same(test.run("explain", str(n)), 64, b"", "nomutanku: there is no refusal %d\n" % n)
 
 

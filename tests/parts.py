@@ -2,12 +2,13 @@
 
 Every question goes to the program `ask` and every line that it writes is compared. Fails at any difference.
 """
+import struct
 import sys
 
 from lib import reading, rust, suite
 from lib.asking import LAST
 from lib.building import (
-    END, ENTRY_BYTES, NUMBERS_BYTES, ROW_BYTES, entry, head, list_of, record, resident, table, zero_record,
+    END, ENTRY_BYTES, NUMBERS_BYTES, ROW_BYTES, entry, head, list_of, record, resident, table, with_used, zero_record,
 )
 from lib.on_parts import COLLECT, REFUSALS, WALK, WITHIN, Parts, Question, said
 from lib.random_tables import part as placed
@@ -32,6 +33,15 @@ FILES = {
     51: record(512, placed(0x80, 2, length=64, runs=65)),
     52: record(512, head(0x80, 16, instance=2)),
     53: record(512, placed(0x80, 2, length=63, runs=65)),
+    # used sizes: above the length; and one byte short of what stands at 80 or at 56
+    54: record(512, resident(0x80, 1), placed(0x80, 2), used=513),
+    55: record(512, placed(0x80, 2), magic=b"FILF", used=513),
+    56: record(512, resident(0x80, 1), placed(0x80, 2), used=143),
+    57: record(512, resident(0x80, 1), resident(0x11, 2), placed(0x80, 2), used=103),
+    58: record(512, resident(0x80, 1), resident(0x80, 2), used=103),
+    59: record(512, placed(0x80, 2, length=63, runs=65), used=118),
+    # one that ends with the part, and a stale attribute behind it
+    60: record(512, placed(0x80, 2, 0, 72, 66, 123456789), resident(0x80, 2), used=128),
 }
 
 # a good entry of 26 bytes with the part that it gives and what is read for it
@@ -74,7 +84,11 @@ def sample():
         Question(WALK, r, t), Question(WALK, whole, u, on=1), Question(WALK, whole, u, on=0),
         Question(WALK, r, t[:19], on=2),
         *(Question(WITHIN, whole, u, rest=span, room=room) for room in (0, 1, 2, 157)),
+        *(Question(COLLECT, with_used(whole, used), u, rest=span) for used in (512, 513)),
     )
+    for n in (54, 56):
+        stale, v, span = listed([ONE, entry(0x80, n, 2)], {k: FILES[k] for k in (41, n)})
+        questions += Question(COLLECT, stale, v, rest=span), Question(WALK, stale, v, on=1)
     return [test.counted(q, test.expected(q)) for q in questions]
 
 
@@ -93,6 +107,10 @@ BAD = (
     # 19 before 7, 7 before 12
     (entry(0x80, 51, 2), 12, (51, 56), 2), (entry(0x80, 52, 2), 19, (52, 56), 2),
     (entry(0x80, 53, 2), 7, (53, 56), 2),
+    # 2 before 27; 28 before 6, 19 and 7, and what it refuses is no read
+    (entry(0x80, 54, 2), 27, (54, 0), 1), (entry(0x80, 55, 2), 2, (55, 0), 1),
+    (entry(0x80, 56, 2), 28, (56, 80), 2), (entry(0x80, 57, 2), 28, (57, 80), 2), (entry(0x80, 58, 2), 28, (58, 80), 2),
+    (entry(0x80, 59, 2), 28, (59, 56), 1),
 )
 
 
@@ -111,6 +129,24 @@ def test_every_refusal(test):
             # each of them with less room too, and with the record as the walk finds it
             test.put_both(r, t, rest, rooms=range(before + 3))
             test.put(WALK, r, t, on=9)
+
+
+def test_a_stale_tail(test):
+    """A part that ends with the used size of its record is one, whatever stands behind it; a byte less refuses it."""
+    for used in (128, 129, 151, 152, 512):
+        collected(
+            test, "a used size at the part's end and above", [entry(0x80, 60, 2, lowest=3)],
+            [Part(60, 56, 0, 122, 6, 123456789, 3)], "whole", 2, files={60: with_used(FILES[60], used)})
+    for used in (0, 56, 127):
+        collected(
+            test, "a used size inside the part", [entry(0x80, 60, 2, lowest=3)], [], "refused 28 60 56", 1,
+            files={60: with_used(FILES[60], used)})
+    # the base record's own part
+    for used, found, end, reads in ((184, 1, "whole", 3), (183, 0, "refused 28 40 112", 2)):
+        lent = record(512, list_of(MINE), placed(0x80, 2, 77, 72, 64, 9), used=used)
+        q = Question(COLLECT, lent, table(FILES), rest=Rest(True, 80, 106))
+        parts = [Part(40, 112, 77, 176, 8, 9, 8)] * found
+        test.case("base-record entry, near its used size", q, parts, end, reads)
 
 
 def test_room(test):
@@ -212,7 +248,7 @@ def test_base_record_entries(test):
         changed = lent[:at] + placed(0x80, 2, 78, 72, 64, 9) + lent[at + 72:]
         for row in (
             lent, None, record(512), record(512, placed(0x80, 2, 1, 64, 64, 1)), record(512, resident(0x80, 2)),
-            record(512, magic=b"BAAD"), changed,
+            record(512, magic=b"BAAD"), record(512, used=513), changed,
         ):
             name = "base-record entry, another record in the table"
             if row is None:
@@ -285,19 +321,29 @@ def test_the_most_parts(test):
 
 
 def test_the_most_parts_of_a_walk(test):
-    """One less, since the list's own header has to stand before them: at byte 8, its flags the record's first
-    attribute offset."""
+    """One less, since the list's own header has to stand before them: at byte 28, behind the record's used size, and
+    the list begins at the header's byte 8.
+
+    So the first entry lies over the header: its type, 0x100, over the form, the name's length and its offset, its
+    length over the flags, and its lowest VCN over the value's length and offset.
+    """
+    others = {
+        41: record(4096, placed(0x100, 2, 1, 72, 64, 10)),
+        42: record(4096, resident(0x80, 1), placed(0x100, 2, 2, 80, 64, 20)),
+    }
     for count in (156, 155):
-        inside = b"".join(entry(0x80, 41 + k % 2, 2, lowest=k) for k in range(count))
-        listing = resident(0x20, 0, 24 + ENTRY_BYTES * 156, len(inside), 24, inside, fill=None, flags=8)
-        r = bytearray(record(4096, first=8))
-        r[8:8 + len(listing)] = listing
-        r[32 + ENTRY_BYTES * 156:36 + ENTRY_BYTES * 156] = END
-        end = 32 + len(inside)
-        item = "item 41 56 128 72 0 2 rest 1 32 %d left 4088 1 58 %d 1 128 2 reads 3" % (end, end)
-        parts = said(MOST_PARTS[:count], "whole", sum(MOST_READS[:count]))
-        last = "end left 4088 0 0 0 1 128 2 reads %d" % (count - 1)
-        q = Question(WALK, bytes(r), table({40: bytes(r), **MOST_FILES}))
+        inside = b"".join(entry(0x100, 41 + k % 2, 2, lowest=k) for k in range(count))
+        listing = bytearray(struct.pack("<II", 0x20, 8 + ENTRY_BYTES * 156) + inside)
+        struct.pack_into("<IHH", listing, 16, len(inside), 8, 0)
+        r = bytearray(record(4096, first=28))
+        r[28:28 + len(listing)] = listing
+        r[36 + ENTRY_BYTES * 156:40 + ENTRY_BYTES * 156] = END
+        end = 36 + len(inside)
+        item = "item 41 56 256 72 0 2 rest 1 36 %d left 4092 1 62 %d 1 256 2 reads 3" % (end, end)
+        found = [MOST_PARTS[0]._replace(listed=len(inside) + (8 << 32)), *MOST_PARTS[1:count]]
+        parts = said(found, "whole", sum(MOST_READS[:count]))
+        last = "end left 4092 0 0 0 1 256 2 reads %d" % (count - 1)
+        q = Question(WALK, bytes(r), table({40: bytes(r), **others}))
         test.put_literal_question("\n".join((item, parts, last)), q)
         test.classes["%d parts in a walk" % count] += 1
 
@@ -320,17 +366,22 @@ WRONG = (
 
 
 def test_refusals_of_the_opening(test):
-    """21, 1, 2, 22, in that order, and nothing read; also where the item has no list, but for 22."""
+    """21, 1, 2, 27, 22, in that order, and nothing read; also where the item has no list, but for 22."""
     r, t, rest = listed([ONE])
+    above = with_used(r, 513)
     last_row = NUMBERS_BYTES + ROW_BYTES * len(FILES)
     for given in (rest, *WRONG, NO_LIST, Rest(False, 80, 106), Rest(False, LAST, 0)):
         for bad, place in ((t[:19], 0), (t[:-1], last_row), (b"", 0)):
-            for other in (r, r[:504], b"", b"FILF" + r[4:]):
+            for other in (r, r[:504], b"", b"FILF" + r[4:], above):
                 test.case(
                     "21 at the opening", Question(COLLECT, other, bad, rest=given), [], "refused 21 0 %d" % place, 0)
-        for short in (b"", r[:56], r[:511], r[:504], r + bytes(8), bytes(4104)):
+        for short in (b"", r[:56], r[:511], r[:504], r + bytes(8), bytes(4104), above[:504]):
             test.case("1 at the opening", Question(COLLECT, short, t, rest=given), [], "refused 1 40 0", 0)
-        test.case("2 at the opening", Question(COLLECT, b"FILF" + r[4:], t, rest=given), [], "refused 2 40 0", 0)
+        for other in (r, above):
+            q = Question(COLLECT, b"FILF" + other[4:], t, rest=given)
+            test.case("2 at the opening", q, [], "refused 2 40 0", 0)
+        for other in (above, with_used(r, 2 ** 32 - 1)):
+            test.case("27 at the opening", Question(COLLECT, other, t, rest=given), [], "refused 27 40 0", 0)
     for given in WRONG:
         name = "22 at the opening, from > to" if given.start > given.end else "22 at the opening, past the record"
         test.case(name, Question(COLLECT, r, t, rest=given), [], "refused 22 40 0", 0)
@@ -426,10 +477,10 @@ def test_the_answers_of_the_rust(test):
     cases, lines, parts, different = rust.replayed_parts(test, text)
     test.stop_at(different, cases)
     assert cases >= 100 and parts >= 400
-    # each way in which parts can end where a walk asks for them; 7 is not the Rust's
+    # each way in which parts can end where a walk asks for them; 7, 27 and 28 are not the Rust's
     values = [line.split(" value ")[1] for line in text.split("\n") if " value parts " in line]
     ways = {int(value.split(" refused ")[-1].split(" ")[0]) for value in values if " refused " in value}
-    assert ways == set(REFUSALS) - {7, 20}, ways
+    assert ways == set(REFUSALS) - {7, 20, 27, 28}, ways
     for start in ("attr ", "part ", "refused "):
         for changed in rust.changed_answers(text, 4, start):
             assert len(rust.replayed_parts(test, changed)[3]) == 1
@@ -446,7 +497,8 @@ CLASSES = (
     "unknown type of the same instance", "unknown type of the same instance, for the base record",
     "an entry that is longer than the list ends", "no first entry", "the list ends", "flag false", "from = to",
     "22 at the opening, from > to", "22 at the opening, past the record", "21 at the opening", "1 at the opening",
-    "2 at the opening", "inside another attribute", "at the record's end", "under 26 bytes",
+    "2 at the opening", "27 at the opening", "inside another attribute", "at the record's end", "under 26 bytes",
+    "a used size at the part's end and above", "a used size inside the part", "base-record entry, near its used size",
     *("no. %d of the differences" % number for number in range(20, 25)),
     *("%d in the %s part" % (number, part) for number in REFUSALS if number != 20 for part in ("first", "later")),
     "room 0", "room enough", "room one short", "20 before the lookup", "6 before 20", "14 before 20", "15 before 20",

@@ -60,7 +60,8 @@ def test_damaged_and_random_records(test):
 def ended(test):
     """Each refusal was given but 7 to 13 of names and values, which record.py has by hand."""
     test.finish(
-        ["number %2d" % n for n in (*range(1, 14), 18)] + ["reader %2d" % n for n in range(1, 6)],
+        ["number %2d" % n for n in (*range(1, 14), 18, 27, 28)]
+        + ["reader %2d" % n for n in (*range(1, 6), 27, 28)],
         (KNOWN_TYPE, FLAGS))
 
 

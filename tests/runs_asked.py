@@ -6,7 +6,7 @@ Every question goes to the program `ask`: `runs::step` on run bytes with any las
 import random
 
 from lib import suite
-from lib.building import PATTERN
+from lib.building import PATTERN, with_used
 from lib.on_runs import ALL, CALLS, OF_THE_OPENING, REFUSALS, STEP, Question, Runs, told_all, told_step
 from lib.question import LAST
 from lib.reading import Refusal
@@ -25,12 +25,13 @@ SEED = 20240917
 RANDOM = 40_000
 
 
-def record_of(text, place=PLACE, length=None):
+def record_of(text, place=PLACE, length=None, used=None):
     """A record of this length, or one with room for them, with these bytes at a place and others around them, so that
-    one read too many shows."""
+    one read too many shows. Its used size is its length unless it is told."""
     if length is None:
         length = -(-(place + len(text) + WIDEST) // 8) * 8
-    return (b"FILE" + PATTERN[4:place] + text + PATTERN[place + len(text):])[:length]
+    record = (b"FILE" + PATTERN[4:place] + text + PATTERN[place + len(text):])[:length]
+    return with_used(record, length if used is None else used)
 
 
 def sized(number, width):
@@ -153,11 +154,14 @@ def test_places(test):
 
 
 def test_records(test):
-    """Checks 1 and 2 come before the runs."""
+    """Checks 1, 2 and 27 come before the runs, and no other: they are read behind the used size too."""
     for length in LENGTHS:
         for magic in (b"FILE", b"FILF", b"BAAD"):
-            record = (magic + record_of(b"\x11\5\n", 56, length)[4:])[:length]
-            test.put(ALL, record, place=56, count=3)
+            for used in (length, length + 1, 2 ** 32 - 1, 0):
+                record = (magic + record_of(b"\x11\5\n", 56, length, used)[4:])[:length]
+                test.put(ALL, record, place=56, count=3)
+    for used, answer in ((72, "run 10 5\nend"), (0, "run 10 5\nend"), (73, "refused 27 41 0\nend")):
+        test.put_literal(answer, ALL, record_of(b"\x11\5\n", 64, 72, used), place=64, count=3)
 
 
 def test_many_runs(test):

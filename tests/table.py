@@ -8,7 +8,7 @@ import struct
 
 from lib import programs, question, reading, suite
 from lib.asking import LAST, said_bytes
-from lib.building import NUMBERS_BYTES, PATTERN, ROW_BYTES, numbers
+from lib.building import NUMBERS_BYTES, PATTERN, ROW_BYTES, numbers, with_used
 from lib.building import blank_record as record
 from lib.building import rest_of_list as entry
 from lib.building import row_table as table
@@ -26,7 +26,7 @@ def sample():
     entries = (entry(40, 40, 3), entry(32, 40, 0), entry(25, 26, 0), entry(28, 27, 1), entry(26, 28, 1), b"")
     lent = (
         (base, t, 40), (base, t, 41), (base, t, 42), (base, other, 41), (base, bad, 41), (base[:56], t, 41),
-        (b"BAAD" + base[4:], t, 41),
+        (b"BAAD" + base[4:], t, 41), (with_used(base, 65), t, 41), (base, t[:108] + with_used(base, 65), 41),
     )
     return [
         *(Question(kind, place=200, record=rest) for rest in entries for kind in (HEADER, STEP)),
@@ -91,11 +91,27 @@ def test_both_sides_of_each_line_in_a_table(test):
     other = t[:108] + b"BAAD" + t[112:]
     test.put_literal("refused 2 41 0", LOOKUP, base, other, wanted=41, place=9)
     test.put_literal("view 0 ", VIEW, base, other, wanted=41, place=9)
-    # 21, 1 and 2, in this order
-    bad = numbers(2, 64, 20, 44, 3) + t[20:]
+    # 21, 1, 2 and 27, in this order
+    bad, above = numbers(2, 64, 20, 44, 3) + t[20:], with_used(base, 65)
     test.put_literal("refused 21 0 0", LOOKUP, b"BAAD", bad, wanted=41, place=9)
+    test.put_literal("refused 21 0 0", LOOKUP, above, bad, wanted=41, place=9)
     test.put_literal("refused 1 40 0", LOOKUP, b"BAAD", t, wanted=41, place=9)
+    test.put_literal("refused 1 40 0", LOOKUP, above[:56], t, wanted=41, place=9)
     test.put_literal("refused 2 40 0", LOOKUP, b"BAAD" + base[4:], t, wanted=41, place=9)
+    test.put_literal("refused 2 40 0", LOOKUP, b"BAAD" + above[4:], t, wanted=41, place=9)
+    for kind in (OPENING, LOOKUP):
+        test.put_literal("refused 27 40 0", kind, above, t, wanted=41, place=9)
+    # 27 in the record found: its used size is its length, and one more; 2 comes before it
+    for held, answer in (
+        (with_used(base, 64), "found"), (with_used(base, 65), "refused 27 41 0"),
+        (with_used(base, 2 ** 32 - 1), "refused 27 41 0"), (b"BAAD" + with_used(base, 65)[4:], "refused 2 41 0"),
+    ):
+        test.put_literal(answer, LOOKUP, base, t[:108] + held, wanted=41, place=9)
+    test.put_literal("view 0 ", VIEW, base, t[:108] + with_used(base, 65), wanted=41, place=9)
+    # what is not looked up is not tested: the table's own record 40, and 41 where there is no row 42
+    other = t[:44] + with_used(base, 65) + with_used(base, 65)
+    test.put_literal("found", LOOKUP, base, other, wanted=40, place=9)
+    test.put_literal("refused 17 40 9", LOOKUP, base, other, wanted=42, place=9)
     # the base record wins over a row of its number
     lent = record(64, 900)
     test.put_literal(said_bytes("view", lent), VIEW, lent, t, wanted=40)
@@ -349,7 +365,7 @@ def test_many_rows(test):
 # Opening and lookup.
 
 def test_openings(test):
-    """1 and 2 of the base record, behind the table's 21; its length has to be the table's record size."""
+    """1, 2 and 27 of the base record, behind the table's 21; its length has to be the table's record size."""
     magics = (b"FILE", b"FILF", b"\0ILE", b"BAAD")
     for size in (64, 72, 128, 4096):
         t = table([(40, 60), (41, 61)], 61 + size, size, records=60)
@@ -358,7 +374,10 @@ def test_openings(test):
         for length, magic in itertools.product(sorted(lengths), magics):
             for table_ in (t, bad):
                 for kind in WITH_A_RECORD:
-                    test.put(kind, record(length, 900, magic), table_, wanted=41, number=2 ** 40)
+                    for used in (length, length + 1):
+                        test.put(kind, record(length, 900, magic, used), table_, wanted=41, number=2 ** 40)
+        for used in (*range(size - 3, size + 4), 0, 1, 255, 256, *(f for f in FAR if f < 2 ** 32)):
+            test.put_table(t, record(size, 900, used=used), wanted=41, number=2 ** 40)
     for number in (0, 1, 40, 41, *FAR):
         t = table([(40, 60)], 124, records=60)
         for r in (record(64), record(64, magic=b"FILF"), record(72)):
@@ -367,7 +386,7 @@ def test_openings(test):
 
 
 def test_lookups(test):
-    """17 and 2: every record of a table, the base record over a row of its number, and the place to blame."""
+    """17, 2 and 27: every record of a table, the base record over a row of its number, and the place to blame."""
     # every record of a table, those that are not FILE among them, the base's own number among them
     rows = [(40 + 2 * i, 200 + 64 * i) for i in range(6)]
     whole = table(rows, 200 + 64 * 6, records=100)
@@ -379,6 +398,11 @@ def test_lookups(test):
         for number in (7, *range(39, 53), 2 ** 48, 2 ** 48 + 40, LAST):
             for wanted in (*range(38, 54), number):
                 test.put_lookup(lent, bytes(t), wanted, number=number, place=wanted)
+    # used sizes of the record looked up, each byte of them
+    for at in (200, 200 + 64 * 5):
+        for used in (*range(70), 255, 256, *(f for f in FAR if f < 2 ** 32)):
+            t = whole[:at] + with_used(whole[at:], used)
+            test.put_lookup(record(64), t, 40 + (at - 200) // 32, number=7, place=9)
     # numbers at and above 2^48 are in no table; one lent with the base record is found there
     for wanted in (2 ** 48 - 1, 2 ** 48, 2 ** 48 + 40, 2 ** 63 + 42, LAST, 40 + 2 ** 32, 40 + 2 ** 16):
         for number in (40, wanted, 2 ** 48):
@@ -393,8 +417,8 @@ def test_lookups(test):
 
 
 NEEDED = {
-    "list::header": (14, 15, 16), "list::step": (14, 15, 16), "Table::check": (21,), "File::of_bytes": (21, 1, 2),
-    "File::lookup": (21, 1, 2, 17, "2 of the record looked up"),
+    "list::header": (14, 15, 16), "list::step": (14, 15, 16), "Table::check": (21,), "File::of_bytes": (21, 1, 2, 27),
+    "File::lookup": (21, 1, 2, 27, 17, "2 of the record looked up", "27 of the record looked up"),
 }
 
 

@@ -5,7 +5,7 @@ import struct
 
 from lib import reading, suite, volumes
 from lib.asking import of
-from lib.building import PATTERN
+from lib.building import PATTERN, USED_AT, with_used
 from lib.building import blank_record as record
 from lib.building import rest_of_list as entry
 from lib.building import row_table as table
@@ -69,7 +69,11 @@ def random_table(chance):
     for _ in range(count):
         rows.append((number, chance.choice((records, last, chance.randrange(records, last + 1)))))
         number += chance.choice((1, 1, 2, 300))
-    return table(rows, length, size, directory, records, chance.randrange(count + 1))
+    t = table(rows, length, size, directory, records, chance.randrange(count + 1))
+    if rows and chance.random() < 0.1:
+        at = chance.choice(rows)[1]
+        t = t[:at] + with_used(t[at:], chance.choice((0, size, size + 1, 2 ** 32 - 1)))
+    return t
 
 
 def damaged(t, chance):
@@ -84,7 +88,7 @@ def damaged(t, chance):
             at = directory + 12 * chance.randrange(count) + chance.randrange(12)
         elif where < 0.95 and count:
             offset = int.from_bytes(t[directory + 12 * chance.randrange(count) + 8:][:4], "little")
-            at = offset + chance.randrange(5)
+            at = offset + chance.choice((*range(5), USED_AT, USED_AT + 1))
         else:
             at = chance.randrange(len(t))
         if at < len(t):
@@ -107,7 +111,8 @@ def probe(test, t, chance):
     known = [int.from_bytes(t[at:at + 8], "little") for at in places] or [40]
     number = chance.choice((7, 40, chance.choice(known), chance.randrange(2 ** 64)))
     length = size if size <= 4104 and chance.random() < 0.95 else chance.choice((0, 64, 72, 4096, 4104))
-    r = record(length, chance.randrange(800), b"FILE" if chance.random() < 0.95 else b"FILF")
+    used = length if chance.random() < 0.95 else chance.choice((0, length + 1, 2 ** 32 - 1))
+    r = record(length, chance.randrange(800), b"FILE" if chance.random() < 0.95 else b"FILF", used)
     test.put(OPENING, r, t, number=number)
     for _ in range(2):
         near = (chance.choice(known) + chance.choice((0, 0, 0, 1))) % 2 ** 64

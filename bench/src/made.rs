@@ -3,11 +3,14 @@
 
 const DATA: u8 = 0x80;
 
-/// An empty record: the first attribute is to stand at 56.
+/// An empty record: the first attribute is to stand at 56, and all of the record is used.
 fn record(size: usize) -> Vec<u8> {
     let mut r = vec![0u8; size];
     r[0..4].copy_from_slice(b"FILE");
     r[20] = 56;
+    for at in [24, 28] {
+        r[at..at + 4].copy_from_slice(&(size as u32).to_le_bytes());
+    }
     r
 }
 

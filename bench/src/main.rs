@@ -34,6 +34,16 @@ struct Case {
     runs: f64,
 }
 
+/// A table that is not timed beside the Rust, and why.
+struct Left {
+    name: String,
+    table: Vec<u8>,
+    why: &'static str,
+}
+
+/// Why a table is left that 27 or 28 decides: it is timed for ours alone.
+const DECIDED: &str = "27, 28";
+
 /// The middle times of one listing: ours, the Rust's, and the Rust's from the table's bytes on.
 #[derive(Clone, Copy)]
 struct Times([f64; 3]);
@@ -70,18 +80,26 @@ fn without_runs(table: &[u8], text: &str) -> Vec<u8> {
     quiet
 }
 
-/// Why the Rust can't be held to a listing: it has no check 7, opens the list that 13 refuses, and has no table.
+/// Why the Rust can't be held to a listing: it goes on where 27 or 28 refuses, has no check 7, opens the list that 13
+/// refuses, and has no table.
 fn beyond(text: &str) -> Option<&'static str> {
-    let ends = [("refused 7\n", "7"), ("stopped 7\n", "7"), ("stopped 13\n", "13"), ("table refused 21\n", "21")];
-    ends.iter().find(|(end, _)| text.contains(end)).map(|(_, why)| *why)
+    let ends = [
+        (" 27\n", DECIDED),
+        (" 28\n", DECIDED),
+        (" 7\n", "7"),
+        (" 13\n", "13"),
+        (" 21\n", "21"),
+    ];
+    let said = |end| ["refused", "stopped"].iter().any(|word| text.contains(&format!("{word}{end}")));
+    ends.iter().find(|(end, _)| said(end)).map(|(_, why)| *why)
 }
 
 /// A table to be timed, where both list it alike, or why it is left out. Any other difference ends the program.
-fn case(name: &str, table: Vec<u8>, out: &mut [u8], room: &mut Room) -> Result<Case, &'static str> {
+fn case(name: &str, table: Vec<u8>, out: &mut [u8], room: &mut Room) -> Result<Case, Left> {
     let end = ours::list(&table, out);
     let (text, _) = apart(&out[..end]);
     if let Some(why) = beyond(&text) {
-        return Err(why);
+        return Err(Left { name: name.into(), table, why });
     }
     let (runs, others): (Vec<_>, Vec<_>) = text.lines().partition(|line| is_run(line));
     let (with_runs, runs, others) = (table, runs.len() as f64, others.join("\n") + "\n");
@@ -91,21 +109,27 @@ fn case(name: &str, table: Vec<u8>, out: &mut [u8], room: &mut Room) -> Result<C
     assert_eq!(text, others, "{name}: without its runs the listing is another");
     let mut volume = Volume::of(&table).expect("a table that passes 21");
     let ntfs = volume.ntfs();
-    catch_unwind(AssertUnwindSafe(|| theirs::list(&ntfs, &mut volume, room))).map_err(|_| "panic")?;
+    if catch_unwind(AssertUnwindSafe(|| theirs::list(&ntfs, &mut volume, room))).is_err() {
+        return Err(Left { name: name.into(), table, why: "panic" });
+    }
     let told = String::from_utf8_lossy(room.out.told());
     assert_eq!(text, told, "{name}: ours and the Rust's listing differ");
     Ok(Case { name: name.into(), table, volume, ntfs, reads, with_runs, runs })
 }
 
-fn real(folder: &str, out: &mut [u8], room: &mut Room) -> Vec<Case> {
+/// The tables of a folder that both list alike, and those that ours alone lists.
+fn real(folder: &str, out: &mut [u8], room: &mut Room) -> (Vec<Case>, Vec<Left>) {
     let mut names: Vec<_> = std::fs::read_dir(folder).expect(folder).map(|e| e.unwrap().path()).collect();
     names.retain(|n| n.extension().is_some_and(|e| e == "tab"));
     names.sort();
-    let (mut cases, mut left) = (vec![], BTreeMap::new());
+    let (mut cases, mut alone, mut left) = (vec![], vec![], BTreeMap::new());
     for path in &names {
         match case(&path.file_stem().unwrap().to_string_lossy(), std::fs::read(path).unwrap(), out, room) {
             Ok(c) => cases.push(c),
-            Err(why) => *left.entry(why).or_insert(0) += 1,
+            Err(table) => {
+                *left.entry(table.why).or_insert(0) += 1;
+                alone.extend((table.why == DECIDED).then_some(table));
+            }
         }
     }
     println!(
@@ -113,7 +137,7 @@ fn real(folder: &str, out: &mut [u8], room: &mut Room) -> Vec<Case> {
         names.len(),
         cases.len()
     );
-    cases
+    (cases, alone)
 }
 
 fn timed(times: usize, mut f: impl FnMut()) -> f64 {
@@ -211,6 +235,17 @@ fn report_runs(cases: &[Case], times: &[Times], out: &mut [u8]) {
     println!("\nwith their {lines} lines of runs: ours {with:.0} ns, {:.1} ns a line", (with - without) / lines);
 }
 
+/// The tables that 27 or 28 decides, by ours alone: the Rust lists more of them, so there is nothing to hold ours to.
+fn report_alone(alone: &[Left], out: &mut [u8]) {
+    for one in alone {
+        let mut times = Vec::new();
+        for _ in 0..ROUNDS {
+            times.push(turn(|| { black_box(ours::list(black_box(&one.table), black_box(&mut *out))); }));
+        }
+        println!("decided by 27 or 28, {}: ours {:.0} ns", one.name, middle(times));
+    }
+}
+
 /// What one read costs as records grow, then what a listing costs as rows do.
 fn report_made(out: &mut [u8], room: &mut Room) {
     let kinds: [(&str, fn(usize) -> Vec<u8>); 3] =
@@ -219,11 +254,11 @@ fn report_made(out: &mut [u8], room: &mut Room) {
     let mut cases = vec![];
     for (kind, make) in kinds {
         cases.extend(sizes.map(|m| {
-            case(&format!("{kind} {m}"), make(m), out, room).map_err(|why| panic!("{kind} {m}: {why}")).unwrap()
+            case(&format!("{kind} {m}"), make(m), out, room).map_err(|left| panic!("{kind} {m}: {}", left.why)).unwrap()
         }));
     }
     cases.extend([32, 256, 1024, 4000].map(|n| {
-        case(&format!("{n} rows"), made::rows(n), out, room).map_err(|why| panic!("{n} rows: {why}")).unwrap()
+        case(&format!("{n} rows"), made::rows(n), out, room).map_err(|left| panic!("{n} rows: {}", left.why)).unwrap()
     }));
     let times = race(&mut cases, out, room);
     println!();
@@ -253,7 +288,7 @@ fn main() {
     };
     theirs::begin();
     let (mut out, mut room) = (vec![0u8; ROOM], Room::of(ROOM));
-    let mut cases = real(folder, &mut out, &mut room);
+    let (mut cases, alone) = real(folder, &mut out, &mut room);
     if mode == "--once" {
         return counted(&mut cases, &mut out, &mut room);
     }
@@ -266,5 +301,6 @@ fn main() {
     let passed = pass(&mut cases, &mut out, &mut room);
     report(&cases, &times, passed);
     report_runs(&cases, &times, &mut out);
+    report_alone(&alone, &mut out);
     report_made(&mut out, &mut room);
 }

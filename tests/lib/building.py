@@ -12,8 +12,9 @@ PATTERN = bytes((7 * i + 3) % 251 + 1 for i in range(70_000))
 END = struct.pack("<I", MARKER)
 FILE = b"FILE"
 
-# Where a record's first attribute stands most often.
-FIRST = 56
+# Where a record's first attribute stands most often, and where its used size does. That is a record's length unless it
+# is told: a record whose used size is smaller refuses what stands behind it.
+FIRST, USED_AT = 56, 24
 
 # What stands in a resident attribute behind its value, in one that is not resident behind its header, in an entry
 # behind its name, and in a gap of a table.
@@ -87,15 +88,21 @@ def list_of(*entries, instance=9, cut=0, length=None, fill=RESIDENT_FILL):
 
 # Records.
 
-def blank_record(length, k=0, magic=FILE):
-    """Bytes of a record that begin with the magic, the others different for each k."""
-    return (magic + PATTERN[k + 4:k + length])[:length]
+def with_used(text, used):
+    """These bytes of a record with another used size, as far as they come to it."""
+    return (text[:USED_AT] + struct.pack("<I", used) + text[USED_AT + 4:])[:len(text)]
+
+
+def blank_record(length, k=0, magic=FILE, used=None):
+    """Bytes of a record that begin with the magic, the others different for each k but for the used size."""
+    return with_used((magic + PATTERN[k + 4:k + length])[:length], length if used is None else used)
 
 
 def placed_record(
-        length, first=FIRST, placed=(), magic=FILE, sequence=5, links=2, flags=0xFFFD, used=116, allocated=128,
+        length, first=FIRST, placed=(), magic=FILE, sequence=5, links=2, flags=0xFFFD, used=None, allocated=128,
         fixup=b""):
     """A record of this length with attributes at their offsets. What lies behind its end is cut off."""
+    used = length if used is None else used
     text = bytearray(PATTERN[:max(length, 4200)])
     text[0:4] = magic
     text[4:4 + len(fixup)] = fixup
@@ -108,15 +115,16 @@ def placed_record(
 def record(size, *attributes, first=FIRST, used=None, end=END, **more):
     """A record of this size with these attributes one behind another, then the end marker."""
     body = b"".join(attributes) + end
-    used = first + len(body) if used is None else used
     return placed_record(
         size, first, ((first, body),), used=used, **{"flags": 1, "allocated": size, "fixup": b"\x30\0\1\0", **more})
 
 
-def zero_record(size, *placed, first=FIRST):
-    """R(size) of docs/DIFFERENCES.md: zeros, with these bytes at these offsets."""
+def zero_record(size, *placed, first=FIRST, used=None, allocated=None):
+    """R(size) of docs/DIFFERENCES.md, with these bytes at these offsets: what a record begins with, its length for its
+    used and its allocated size, and else zeros."""
     text = bytearray(size)
     text[0:4], text[6], text[20] = FILE, 1, first
+    struct.pack_into("<II", text, USED_AT, *(size if told is None else told for told in (used, allocated)))
     for at, part in placed:
         text[at:at + len(part)] = part
     assert len(text) == size
@@ -137,14 +145,16 @@ def row(number, offset, owner=None):
 
 def row_table(rows, length, size=64, directory=NUMBERS_BYTES, records=None, base=None, count=None, width=ROW_BYTES):
     """A table of this many bytes with rows (number, offset, or an owner too). Its numbers are as told, or else suit
-    the rows."""
+    the rows. Its records are FILE, and their used size is the record size, as far as they lie apart."""
     text = bytearray(PATTERN[:length])
     count = len(rows) if count is None else count
     records = directory + width * len(rows) if records is None else records
     base = count if base is None else base
-    for _, offset, *_ in rows:
-        if offset + 4 <= length:
-            text[offset:offset + 4] = FILE
+    used = struct.pack("<I", size % 2 ** 32)
+    for at, told in ((USED_AT, used), (0, FILE)):
+        for _, offset, *_ in rows:
+            if offset + at + 4 <= length:
+                text[offset + at:offset + at + 4] = told
     for i, given in enumerate(rows):
         text[directory + width * i:directory + width * (i + 1)] = row(*given)
     text[:NUMBERS_BYTES] = numbers(count, size, directory, records, base)

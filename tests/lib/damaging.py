@@ -2,12 +2,31 @@
 import struct
 
 from lib import reading
-from lib.building import ENTRY_BYTES, RESIDENT_BYTES, ROW_BYTES
+from lib.building import ENTRY_BYTES, RESIDENT_BYTES, ROW_BYTES, USED_AT, with_used
 
 # What a field may become: the values around which the rules turn.
 TYPES = (0x10, 0x20, 0x20, 0x30, 0x80, 0x80, 0x90, 0x100, 0x11, 0, 0x110, reading.MARKER)
 LENGTHS = (
     0, 8, 15, 16, 17, 23, 24, 25, 26, 27, 28, 32, 40, 63, 64, 65, 72, 80, 0xFFFF, 0x10000, 0x80000000, 0xFFFFFFFF)
+
+
+def ends_of(record_):
+    """Where the attributes of a record end, whatever its used size is."""
+    with reading.without_used_sizes():
+        return [a.offset + a.length for a in reading.walk(record_, 0) if isinstance(a, reading.Attribute)]
+
+
+def used_near(record_, chance):
+    """A used size around which 27 and 28 turn: at the record's length, or where one of its attributes ends."""
+    length, ends = len(record_), ends_of(record_)
+    if chance.random() < 0.6 and ends:
+        return chance.choice(ends) + chance.choice((-1, 0, 0, 1))
+    return chance.choice((0, 56, max(length - 1, 0), length, length + 1, length + 1, length + 8, 2 ** 31, 2 ** 32 - 1))
+
+
+def with_other_used(record_, chance, share):
+    """The record; with another used size that often."""
+    return with_used(record_, used_near(record_, chance)) if chance.random() < share else record_
 
 
 def places(record_):
@@ -100,7 +119,7 @@ def hurt_header(r, chance):
         end = (len(r) - 4, len(r) - 3, len(r))
         struct.pack_into("<H", r, 20, chance.choice((0, 8, 16, 42, 48, 55, 56, 57, 64, 80, *end, 0xFFFF)) % 2 ** 16)
     elif what == 2:
-        struct.pack_into("<I", r, 24, chance.choice((0, 56, 100, 0xFFFFFFFF)))
+        struct.pack_into("<I", r, USED_AT, used_near(bytes(r), chance))
     else:
         r[chance.randrange(len(r))] = chance.randrange(256)
 

@@ -12,8 +12,8 @@ OTHER_RUNS = 0.75
 # no record has more than 4,096 bytes, and an input may
 LONGEST_INPUT = 4200
 
-# where the flags of a record stand (RULES 3.1)
-FLAGS_AT = 22
+# where the flags of a record stand (RULES 3.1), and where a table's record size does (RULES 10.1)
+FLAGS_AT, SIZE_AT = 22, 4
 
 
 def damaged_table(chance):
@@ -74,7 +74,9 @@ def record_in_turn(k, real, chance):
         return random_records.random_record(chance)
     long = random_tables.random_record(chance, (40, 41), 4096, True) + building.PATTERN
     length = chance.randrange(LONGEST_INPUT + 1)
-    return long[:chance.choice((length, length // 8 * 8))]
+    front = long[:chance.choice((length, length // 8 * 8))]
+    # most often with its own length for a used size, since that of the long one is above it
+    return building.with_used(front, len(front)) if chance.random() < 0.8 else front
 
 
 def places_of(text):
@@ -84,12 +86,15 @@ def places_of(text):
 
 
 def with_rows_hurt(text, chance):
-    """A table whose records have flags of every kind, and some of them other first bytes."""
+    """A table whose records have flags of every kind, and some of them other first bytes or another used size."""
     out = bytearray(text)
     for at in places_of(text):
         struct.pack_into("<H", out, at + FLAGS_AT, chance.choice((0, 1, 2, 3, chance.randrange(65536))))
         if chance.random() < 0.2:
             out[at + chance.randrange(4)] ^= 1 << chance.randrange(8)
+        if chance.random() < 0.2:
+            size = struct.unpack_from("<I", text, SIZE_AT)[0]
+            struct.pack_into("<I", out, at + building.USED_AT, size + chance.choice((-1, 0, 1, 1, 2 ** 31)))
     return bytes(out)
 
 

@@ -14,7 +14,7 @@ CALLS = ("parts::collect", "parts::fill", "File::next from fresh on, with parts:
 
 # What parts can refuse by behind the opening checks, for the first part and for a later one. Room for 157 is never
 # too little: 20 comes from lent lists alone.
-REFUSALS = (2, 3, 4, 5, 6, 7, 12, 14, 15, 16, 17, 18, 19, 20)
+REFUSALS = (2, 3, 4, 5, 6, 7, 12, 14, 15, 16, 17, 18, 19, 20, 27, 28)
 
 
 class Question(NamedTuple):
@@ -93,8 +93,8 @@ class Parts(Asker):
                 continue
             words = line.split(" ")
             count, end = int(words[1]), words[2] if words[2] == "whole" else int(words[3])
-            # before anything is read, 2 is the opening's
-            opening = end in (1, 21, 22) or end == 2 and words[7] == "0"
+            # before anything is read, 2 and 27 are the opening's
+            opening = end in (1, 21, 22) or end in (2, 27) and words[7] == "0"
             self.endings["opening" if opening else "later" if count else "first", end] += 1
 
     def put(self, kind, record, table, **more):

@@ -52,7 +52,7 @@ def told_value(answer):
 
 
 def expected_find(q):
-    """The search, behind checks 1 and 2. The base record's number, which 18 tells, is one that no other answer
+    """The search, behind checks 1, 2 and 27. The base record's number, which 18 tells, is one that no other answer
     holds."""
     refusal = of(reading.opening, q.record, q.number)
     if refusal is not None:

@@ -11,7 +11,7 @@ STEP, ALL = KINDS = range(2)
 CALLS = ("runs::step", "Runs::of, to its end")
 
 # All that a run is refused by, and what the opening of its record is.
-REFUSALS, OF_THE_OPENING = (23, 24, 25, 26), (1, 2)
+REFUSALS, OF_THE_OPENING = (23, 24, 25, 26), (1, 2, 27)
 
 
 class Question(NamedTuple):
@@ -58,7 +58,7 @@ def expected_step(q):
 
 
 def expected_all(q):
-    """Behind checks 1 and 2 of the record."""
+    """Behind checks 1, 2 and 27 of the record."""
     refusal = of(reading.opening, q.record, q.number)
     if refusal is not None:
         return told_all((), refusal)

@@ -72,9 +72,9 @@ class Tables(Asker):
         return expected(q)
 
     def refused(self, q, refusal):
-        """Counted by the call; the 2 of a looked-up record is told apart from that of the base record."""
+        """Counted by the call; 2 and 27 of a looked-up record are told apart from those of the base record."""
         number, file, _ = refusal
-        looked_up = q.kind == LOOKUP and number == 2 and file == q.wanted != q.number
+        looked_up = q.kind == LOOKUP and number in (2, 27) and file == q.wanted != q.number
         return "%s %d%s" % (CALLS[q.kind], number, " of the record looked up" if looked_up else "")
 
     def put(self, kind, record_=b"", table_=b"", **more):

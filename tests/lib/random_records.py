@@ -2,11 +2,13 @@
 import struct
 
 from lib import reading, volumes
+from lib.building import with_used
+from lib.damaging import used_near, with_other_used
 
 
 def damaged(r, chance):
     """A record with some bytes changed, most of them in its headers, or cut."""
-    r = bytearray(r)
+    r = bytearray(with_other_used(r, chance, 0.1))
     starts = [20] + [a.offset for a in reading.walk(r, 0) if isinstance(a, reading.Attribute)]
     for _ in range(chance.choice((1, 1, 1, 2, 3, 8))):
         if chance.random() < 0.9:
@@ -19,6 +21,8 @@ def damaged(r, chance):
     if chance.random() < 0.1:
         r = r[
             :chance.choice((64, 128, 256, 512, 8 * chance.randrange(len(r) // 8 + 1), chance.randrange(len(r) + 1)))]
+        # most often with the used size of a record of that length, or all of them would be 27
+        return with_used(bytes(r), len(r)) if chance.random() < 0.8 else bytes(r)
     return bytes(r)
 
 
@@ -37,7 +41,9 @@ def random_record(chance):
         if at + 34 <= len(r):
             struct.pack_into("<H", r, at + 32, chance.choice((64, chance.randrange(90))))
         at += max(length, 16)
-    return bytes(r)
+    # most often its length, since any number is above it
+    whole = with_used(bytes(r), len(r))
+    return whole if chance.random() < 0.7 else with_used(whole, used_near(whole, chance))
 
 
 def real_records():

@@ -8,12 +8,16 @@ from lib.building import (
     list_of,
     non_resident, packed_table, record, resident, table,
 )
-from lib.damaging import LENGTHS, damaged
+from lib.damaging import LENGTHS, damaged, with_other_used
 
 # Small ones twice, then those around what 1 and the listing's lines ask.
 SIZES = (
     *range(64, 264, 8), *range(64, 264, 8), 264, 320, 504, 512, 520, 1016, 1024, 1032, 2040, 2048, 2056, 4080, 4088,
     4096)
+
+
+# how many records have another used size than their length
+OTHER_USED = 0.1
 
 
 def random_attribute(chance, numbers, left):
@@ -90,7 +94,7 @@ def random_record(chance, numbers, size, listed):
         at += len(text)
     end = END if chance.random() < 0.8 else b""
     magic = b"FILE" if chance.random() < 0.97 else chance.choice((b"FILF", b"BAAD", b"\0\0\0\0", b"file"))
-    return record(size, *attributes, first=first, magic=magic, end=end)
+    return with_other_used(record(size, *attributes, first=first, magic=magic, end=end), chance, OTHER_USED)
 
 
 def random_table(chance, size=None):
@@ -240,7 +244,7 @@ def record_of_parts(chance, keys, size):
         if left >= 32 + cut:
             attributes.append(resident(0x30, 3, left - cut))
             end = b"\x10\0\0\0" + bytes(cut - 4)
-    return record(size, *attributes, magic=magic, end=end)
+    return with_other_used(record(size, *attributes, magic=magic, end=end), chance, OTHER_USED)
 
 
 def list_of_parts(chance, keys, numbers, left):
@@ -275,7 +279,7 @@ def streams_table(chance):
             continue
         attributes.append(text)
         left -= len(text)
-    records[40] = record(size, *attributes)
+    records[40] = with_other_used(record(size, *attributes), chance, OTHER_USED)
     return table(records)
 
 

@@ -22,6 +22,9 @@ BASE_ROW_AT = 16
 # The refusals whose record and place the crate tells: of a walk, and of names, values and parts.
 PLACED_IN_WALKS, PLACED = {2, 3, 4, 5, 10, 11}, {2, 3, 4, 5, 8, 9, 10, 11, 19}
 
+# The refusals of a walk before it begins, where nothing is read.
+BEFORE = ("1", "2", "21", "27")
+
 
 class Case(NamedTuple):
     """A table, behind how many refusals its walk went on, the lines of the walk, and the first of some types."""
@@ -104,7 +107,7 @@ def walk_told(lines, on):
             out.append(refused_in_walk(words))
             left -= 1
             # told to stop; or refused before it began
-            if left == 0 or words[1] in ("1", "2", "21") and words[-1] == "0":
+            if left == 0 or words[1] in BEFORE and words[-1] == "0":
                 return out
     if out and out[-1].startswith("refused"):
         out += [out[-1]] * left
@@ -195,7 +198,7 @@ def listing_told(answer, told):
             calls.append(["attr %s %s name %s value %s" % (" ".join(words[1:5]), words[6], name, value), *parts])
         elif words[0] == "refused":
             calls.append([refused_told(words[1:])])
-            if len(calls) == 1 and words[-1] == "0" and words[1] in ("1", "2", "21"):
+            if len(calls) == 1 and words[-1] == "0" and words[1] in BEFORE:
                 # refused before it began
                 break
         elif words[0] == "end":

@@ -14,7 +14,7 @@ pub fn header(q: &Question<'_>) -> Result<RecordHeader, Refusal> {
     Ok(open(q)?.header())
 }
 
-/// Checks 1 and 2 of a record that has to be of `place` bytes.
+/// Checks 1, 2 and 27 of a record that has to be of `place` bytes.
 pub fn opening<'a>(q: &Question<'_>) -> Result<Word<'a>, Refusal> {
     Record::open_sized(q.record, q.number, q.place)?;
     Ok(Word("passed"))

@@ -1,5 +1,6 @@
--- The ways in, of any bytes: each says what one call says, and opens these bytes or is refused by 21, 1 or 2.
-use Rattle.std.proofs.Common.{ℕ, zero, suc, ◌+◌, ◌≤◌, ◌≡◌, List, length, refl, sym, ap, subst, eqb, ◌∙◌}
+-- The ways in, of any bytes: each says what one call says, and opens these bytes or is refused by 21, 1, 2
+-- or 27.
+use Rattle.std.proofs.Common.{ℕ, zero, suc, ◌+◌, ◌≤◌, ◌≡◌, List, length, refl, sym, ap, subst, eqb, ltb, ◌∙◌}
 use Prim.Native.Nat.{zero-le}
 use mathlib.Core.Logic.{◌⊎◌, inl, inr}
 use Rattle.std.specs.Prelude.{Result, Ok, Err, IfOk}
@@ -8,13 +9,14 @@ use Rattle.fields.specs.Told.{told_as}
 use Rattle.fields.specs.Length.{good_length}
 use Rattle.fields.specs.declared.RecordNumber.{RecordNumber}
 use Rattle.fields.specs.declared.Refusal.{Refusal}
-use Rattle.fields.specs.declared.Cause.TheVariants.{RecordLength, NotFile, BadTable}
+use Rattle.fields.specs.declared.Cause.TheVariants.{RecordLength, NotFile, BadTable, UsedSize}
 use Rattle.fields.proofs.Answers.{back}
 use Rattle.fields.proofs.Cases.{both}
 use Rattle.table.specs.Check.{table_of, head_of, rows_of, rows_checked, row_checked, good_numbers, malformed}
 use Rattle.table.specs.Layout.{numbers_at}
 use Rattle.table.specs.declared.check.TableHeader.{TableHeader}
-use Rattle.record.specs.Open.{Lent, lent, open_of, open_in, check_file, is_file}
+use Rattle.record.specs.Header.{used_size}
+use Rattle.record.specs.Open.{Lent, lent, open_of, open_in, check_used, check_file, is_file}
 use Rattle.items.specs.Told.{shown_base, file_of_bytes}
 use Rattle.items.specs.Laws.{Opens as OpensBy}
 use Rattle.items.specs.declared.File.{File}
@@ -27,7 +29,7 @@ use Rattle.bound.proofs.Openings.{way}
 
 -- a refusal of the opening
 abbrev OneOf : Refusal → Type 0
-OneOf r = (r.cause ≡ BadTable) ⊎ ((r.cause ≡ RecordLength) ⊎ (r.cause ≡ NotFile))
+OneOf r = (r.cause ≡ BadTable) ⊎ ((r.cause ≡ RecordLength) ⊎ ((r.cause ≡ NotFile) ⊎ (r.cause ≡ UsedSize)))
 
 abbrev Refuses : {A : Type 0} → Outcome A → Type 0
 Refuses (gives x) = Unit {0}
@@ -61,11 +63,14 @@ unfolding table_of
 table_so t = after (head_of t) (rows_of t) (table_head t) (table_all t)
 
 record_so : (s : List ℕ) (n : RecordNumber) (size : ℕ) → Refuses (open_in s n size)
-unfolding open_in open_of check_file
+unfolding open_in open_of check_file check_used
 record_so s n size =
     both Refuses (eqb (length s) size) _ (refuses _)
-    (both Refuses (good_length (length s)) _ (refuses _) (both Refuses (is_file s) (gives (lent s n)) (refuses _) tt
-    (inr (inr refl))) (inr (inl refl)))
+    (both Refuses (good_length (length s)) _ (refuses _)
+    (both Refuses (is_file s) _ (refuses _)
+    (both Refuses (ltb (length s) (used_size s)) (refuses _) (gives (lent s n)) (inr (inr (inr refl))) tt)
+    (inr (inr (inl refl))))
+    (inr (inl refl)))
     (inr (inl refl))
 
 file_so : (t s : List ℕ) (n : RecordNumber) → Refuses (file_of_bytes t s n)

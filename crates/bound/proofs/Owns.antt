@@ -5,13 +5,14 @@ use Rattle.fields.specs.Answer.{Outcome, Answer, gives, ends, refuses, refusal, 
 use Rattle.fields.specs.declared.Cause.{Cause}
 use Rattle.fields.specs.declared.Cause.TheVariants.{EntryCut, EntryShort, EntryNameCut, AttributeCut, AttributeShort}
 use Rattle.fields.specs.declared.Cause.TheVariants.{AttributeLong, HeaderCut, ValueOffset, ValueEnd, ListNotResident}
-use Rattle.fields.specs.declared.Cause.TheVariants.{NoAttribute}
+use Rattle.fields.specs.declared.Cause.TheVariants.{NoAttribute, AttributeStale}
 use Rattle.fields.specs.Known.{end_marker}
 use Rattle.fields.specs.Le.{le}
 use Rattle.fields.specs.Trail.{behind, run, trail}
 use Rattle.fields.specs.declared.RecordNumber.{RecordNumber}
 use Rattle.fields.proofs.Cases.{both}
 use Rattle.list.specs.Entry.{entry_of, entry_at, named_size}
+use Rattle.record.specs.Header.{used_size}
 use Rattle.record.specs.Attribute.{attribute_at, checked_at}
 use Rattle.record.specs.Walk.{step_at, walk_from}
 use Rattle.record.specs.Value.{full_in, resident_in, list_after, list_in}
@@ -92,7 +93,8 @@ module _ (s : List ℕ) (n : RecordNumber) where
       let f = λ (k : Cause) (h : k ≡ NoAttribute → ⊥). of-base n k at h in
       both (Own n) (ltb (length s - at) 16) _ _ (f AttributeCut (λ q. cc))
       (both (Own n) (ltb (attribute_at s at).length 16) _ _ (f AttributeShort (λ q. cc))
-      (both (Own n) (ltb (length s - at) (attribute_at s at).length) _ _ (f AttributeLong (λ q. cc)) tt))
+      (both (Own n) (ltb (length s - at) (attribute_at s at).length) _ _ (f AttributeLong (λ q. cc))
+      (both (Own n) (ltb (used_size s) (at + (attribute_at s at).length)) _ _ (f AttributeStale (λ q. cc)) tt)))
 
   step-own : (at : ℕ) → OwnStep n (step_at s n at)
   unfolding step_at

@@ -15,7 +15,7 @@ use Rattle.record.specs.declared.layout.Attribute.{Attribute}
 use Rattle.record.specs.Inside.{Inside}
 use Rattle.record.specs.Value.{list_in}
 use Rattle.record.specs.declared.layout.Span.{Span}
-use Rattle.record.proofs.Spans.{list-short}
+use Rattle.record.proofs.Spans.{list-lies}
 use Rattle.list.specs.declared.Entry.{Entry}
 use Rattle.record.specs.Walk.{walk_from}
 use Rattle.record.specs.Search.{Searched}
@@ -300,7 +300,7 @@ module _ (s : List ℕ) (n : RecordNumber) where
           (entries_of s n (p.from + p.bytes) p.from) p.from key)
           (entries-good (raw + h.length) (p.from + p.bytes) on ih
           (entries_of s n (p.from + p.bytes) p.from) p.from key lo refl (inl (omega arith)))
-          (raw-opens p g (list-short s n h inside p q) (skip-ge key _ p.from)) (inr (refl, le_refl _))
+          (raw-opens p g (list-lies s n h inside p q).short (skip-ge key _ p.from)) (inr (refl, le_refl _))
 
       gives-good : (key : Option Key) (lo : Spot) → lo.list ≤ raw
           → Good (shut raw) lo (reading (own h ∷ []) (leaves (gives (item n h None))

@@ -5,7 +5,7 @@ use Rattle.std.specs.Prelude.{Result, Ok, Err}
 use Rattle.std.specs.List.{AllByRecursion, Contains}
 use Rattle.fields.specs.declared.RecordNumber.{RecordNumber}
 use Rattle.fields.specs.declared.Refusal.{Refusal}
-use Rattle.fields.specs.declared.Cause.TheVariants.{RecordLength, NotFile, BadTable}
+use Rattle.fields.specs.declared.Cause.TheVariants.{RecordLength, NotFile, BadTable, UsedSize}
 use Rattle.table.specs.Held.{record_of}
 use Rattle.table.specs.Laws.{Checks}
 use Rattle.table.specs.declared.Table.{Table}
@@ -179,10 +179,11 @@ pub data Calls (t s : List ℕ) (n : RecordNumber) (room : ℕ → ℕ) : ℕ �
   refused : (r : Refusal) → WayIn t s n (Err r) → Calls t s n room 0
   opened : (f : File) (c : ℕ) → WayIn t s n (Ok f) → Finished f room c → Calls t s n room c
 
--- a way in opens these very bytes, or is refused by 21, 1 or 2
+-- a way in opens these very bytes, or is refused by 21, 1, 2 or 27
 abbrev pub Opens : List ℕ → List ℕ → RecordNumber → Result File Refusal → Type 0
 Opens t s n (Ok f) = (f.table.bytes.now ≡ t) × (f.base.bytes.now ≡ s) × (f.base.number ≡ n)
-Opens t s n (Err r) = (r.cause ≡ BadTable) ⊎ ((r.cause ≡ RecordLength) ⊎ (r.cause ≡ NotFile))
+Opens t s n (Err r) =
+    (r.cause ≡ BadTable) ⊎ ((r.cause ≡ RecordLength) ⊎ ((r.cause ≡ NotFile) ⊎ (r.cause ≡ UsedSize)))
 
 -- whatever the bytes and the way in, it says the same, and all calls report a + 3e + 2ea at most
 pub record AnyBytes (t s : List ℕ) (n : RecordNumber) (room : ℕ → ℕ) : Type 0 where

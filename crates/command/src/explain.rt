@@ -5,7 +5,7 @@ ghost use Rattle.command.specs.Explain.{explained};
 use fields::Cause;
 
 /// All causes, in the order of their numbers.
-pub const CAUSES: [Cause; 26] = [
+pub const CAUSES: [Cause; 28] = [
     Cause::RecordLength,
     Cause::NotFile,
     Cause::AttributeCut,
@@ -32,6 +32,8 @@ pub const CAUSES: [Cause; 26] = [
     Cause::RunCut,
     Cause::RunEmpty,
     Cause::RunRange,
+    Cause::UsedSize,
+    Cause::AttributeStale,
 ];
 
 fn found(causes: &[Cause], number: u8) -> Option<Cause>

@@ -1,10 +1,11 @@
-//! Why bytes are no record, for people: 1 and 2 (RULES 3) tell them too little.
+//! Why bytes are no record, for people: 1, 2 and 27 (RULES 3) tell them too little.
 ghost use Rattle.std.specs.Prelude.{◌≡◌, take};
 ghost use Rattle.command.specs.Asked.{record_reach};
 ghost use Rattle.command.specs.Misfit.{begins_table};
 
 use crate::asked::RECORD_REACH;
 use fields::good_length;
+use record::is_file;
 use table::Fault;
 use thiserror::Error;
 
@@ -21,6 +22,8 @@ pub enum Misfit {
     Length(usize),
     #[error("it begins otherwise than with FILE")]
     NotFile,
+    #[error("its used size is above its length")]
+    UsedSize,
 }
 
 // As many of an input's bytes as are read of it for a record.
@@ -66,6 +69,10 @@ impl Misfit {
         if !good_length(bytes.len()) {
             return Misfit::Length(bytes.len());
         }
-        Misfit::NotFile
+        if !is_file(bytes) {
+            return Misfit::NotFile;
+        }
+        // what has a record's length and word is refused by its used size alone
+        Misfit::UsedSize
     }
 }

@@ -10,6 +10,7 @@ use Rattle.fields.specs.declared.Cause.TheVariants.{NameEnd, ValueOffset, ValueE
 use Rattle.fields.specs.declared.Cause.TheVariants.{ListNotResident, EntryCut, EntryShort, EntryNameCut}
 use Rattle.fields.specs.declared.Cause.TheVariants.{NoRecord, NoAttribute, PartResident, NoRoom}
 use Rattle.fields.specs.declared.Cause.TheVariants.{BadTable, BadState, RunSize, RunCut, RunEmpty, RunRange}
+use Rattle.fields.specs.declared.Cause.TheVariants.{UsedSize, AttributeStale}
 
 abbrev pub number_of : Cause → ℕ
 number_of RecordLength = 1
@@ -38,6 +39,8 @@ number_of RunSize = 23
 number_of RunCut = 24
 number_of RunEmpty = 25
 number_of RunRange = 26
+number_of UsedSize = 27
+number_of AttributeStale = 28
 
 -- what a call says that gives a value or refuses
 abbrev pub told : {A : Type 0} → Result A Refusal → Outcome A

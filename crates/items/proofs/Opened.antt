@@ -1,5 +1,5 @@
 -- What the opening of a file and a lookup lean on.
-use Rattle.std.proofs.Common.{ℕ, ◌≡◌, List, true, length, eqb, sym, ap, ◌∙◌}
+use Rattle.std.proofs.Common.{ℕ, ◌≡◌, List, true, false, length, eqb, ltb, sym, ap, ◌∙◌}
 use Rattle.std.specs.Prelude.{Option, Some, None, IfOk, IfSome, Result, Ok, Err, option_copied}
 use Rattle.std.specs.Borrow.{Bor}
 use Rattle.std.proofs.lemmas.Bool.{eqb-true}
@@ -9,14 +9,15 @@ use Rattle.fields.specs.Length.{good_length}
 use Rattle.fields.specs.declared.RecordNumber.{RecordNumber}
 use Rattle.fields.specs.declared.Refusal.{Refusal}
 use Rattle.fields.specs.declared.Cause.TheVariants.{NoRecord}
-use Rattle.fields.proofs.Cases.{not-second}
+use Rattle.fields.proofs.Cases.{not_first, not-second}
 use Rattle.fields.proofs.Answers.{the-given, refused-given}
 use Rattle.table.specs.Check.{table_of}
 use Rattle.table.specs.Held.{record_of}
 use Rattle.table.specs.declared.check.TableHeader.{TableHeader}
 use Rattle.table.proofs.Sound.{sound}
 use Rattle.table.proofs.Holds.{record-sized}
-use Rattle.record.specs.Open.{Lent, lent, is_file, check_file, open_of, open_in}
+use Rattle.record.specs.Header.{used_size}
+use Rattle.record.specs.Open.{Lent, lent, is_file, check_used, check_file, open_of, open_in}
 use Rattle.record.specs.Told.{shown_record}
 use Rattle.record.specs.declared.Record.{Record}
 use Rattle.items.specs.Lookup.{held_by, lookup_of, opened_as}
@@ -33,10 +34,15 @@ held_sized t h w m (Some b) e l q = record-sized (sound t h e) w b.now (sym q) �
 held_sized t h w m None e l q = tt
 
 -- a record that was opened is the one that was lent
+opened_used : (s : List ℕ) (n : RecordNumber) (x : Lent) → gives x ≡ check_used s n → x ≡ lent s n
+unfolding check_used
+opened_used s n x e =
+    the-given (sym (not_first (ltb (length s) (used_size s)) _ _ _ (sym e) refused-given).1)
+
 pub opened_file : (s : List ℕ) (n : RecordNumber) (x : Lent) → gives x ≡ check_file s n → x ≡ lent s n
 unfolding check_file
 opened_file s n x e =
-    the-given (sym (not-second (is_file s) _ _ _ (sym e) refused-given).1)
+    opened_used s n x (sym (not-second (is_file s) _ _ _ (sym e) refused-given).1)
 
 opened_as_lent : (s : List ℕ) (n : RecordNumber) (x : Lent) → gives x ≡ open_of s n → x ≡ lent s n
 unfolding open_of
@@ -61,7 +67,7 @@ looked_sized b w m (Ok r) l e = ap (λ (y : Lent). length y.bytes) (opened_as_le
 looked_sized b w m (Err r) l e = tt
 
 module _ (s : List ℕ) (n w : RecordNumber) (look : RecordNumber → Option (List ℕ)) (place : ℕ) where
-  -- what is held passes check 1, so that its opening is check 2
+  -- what is held passes check 1, so that its opening is checks 2 and 27
   pub looked : (b : List ℕ) (x : Outcome Lent) → open_of s n ≡ gives (lent s n) → Some b ≡ held_by s n look w
       → length b ≡ length s → x ≡ open_of b w → x ≡ lookup_of s n look w place
   unfolding lookup_of opened_as open_of

@@ -19,7 +19,7 @@ use Rattle.record.specs.Walk.{step_at, walk_from}
 use Rattle.record.specs.Search.{Searched, count_of}
 use Rattle.record.specs.declared.layout.Attribute.{Attribute}
 use Rattle.record.specs.declared.layout.Span.{Span}
-use Rattle.record.proofs.Spans.{list-fits, list-short}
+use Rattle.record.proofs.Spans.{list-lies}
 use Rattle.record.proofs.Walks as walks
 use Rattle.record.proofs.Trails as trails
 use Rattle.items.specs.State.{list_at, state, rest_of, key_of}
@@ -62,7 +62,7 @@ module _ (s : List ℕ) (n : RecordNumber) where
   raw_room raw h g = walks.moves s n raw h (sym g)
 
   pub list_room : (h : Attribute) (p : Span) → Inside s h → gives p ≡ list_in s n h → ListLies s n h p
-  list_room h p i g = record { short = list-short s n h i p (sym g); most = list-fits s n h i p (sym g) }
+  list_room h p i g = list-lies s n h i p (sym g)
 
   pub first_entry : (l : Rest) (e : Entry) → gives e ≡ entry_of (rest_of s l) n l.from
       → entries_of s n l.to l.from ≡ gives e ∷ entries_of s n l.to (l.from + e.length)

@@ -1,10 +1,11 @@
 -- RULES 20: both sides of each line, as one table: a question of these definitions, the bytes that it is asked of,
 -- and what is to be answered.
 use Rattle.std.specs.Prelude.{ℕ, ◌-◌, ◌≡◌, List, [], ◌∷◌, ◌++◌, map, length, drop, replicate}
+use Rattle.fields.specs.LeBytes.{le_bytes}
 use Rattle.fields.specs.Answer.{Outcome, Answer, gives, ends, refuses, refusal, unended}
 use Rattle.fields.specs.declared.Cause.{Cause}
 use Rattle.fields.specs.declared.Cause.TheVariants.{AttributeCut, AttributeShort, AttributeLong, NameOffset}
-use Rattle.fields.specs.declared.Cause.TheVariants.{ValueEnd, EntryShort, EntryNameCut}
+use Rattle.fields.specs.declared.Cause.TheVariants.{ValueEnd, EntryShort, EntryNameCut, UsedSize, AttributeStale}
 use Rattle.fields.specs.declared.RecordNumber.{RecordNumber}
 use Rattle.list.specs.Entry.{entry_of}
 use Rattle.record.specs.Open.{FILE, Lent, open_of}
@@ -19,24 +20,30 @@ pub data Ask : Type 0 where
   value : Ask
   entry : Ask
 
--- a row: the question, the record's length, the place, the bytes that stand there, and the answer
+-- a row: the question, the record's length and used size, the place, the bytes that stand there, and the answer
 pub record Row : Type 0 where
   pub asks : Ask
   pub long : ℕ
+  pub used : ℕ
   pub place : ℕ
   pub bytes : List ℕ
   pub says : Answer Unit
 
+abbrev pub row_used : Ask → ℕ → ℕ → ℕ → List ℕ → Answer Unit → Row
+row_used q m u p b a = record { asks = q; long = m; used = u; place = p; bytes = b; says = a }
+
+-- used to its length
 abbrev pub row : Ask → ℕ → ℕ → List ℕ → Answer Unit → Row
-row q m p b a = record { asks = q; long = m; place = p; bytes = b; says = a }
+row q m p b a = row_used q m m p b a
 
 -- every case is asked of record 40
 abbrev pub number : RecordNumber
 number = record { 0 = 40 }
 
--- a record of m bytes that begins with FILE and has these bytes at a place, and else zeros
-abbrev pub record_with : ℕ → ℕ → List ℕ → List ℕ
-record_with m p b = FILE ++ (replicate (p - 4) 0 ++ (b ++ replicate (m - p - length b) 0))
+-- a record of m bytes that begins with FILE, has its used size at 24 and these bytes at a place, and else zeros
+abbrev pub record_with : ℕ → ℕ → ℕ → List ℕ → List ℕ
+record_with m u p b =
+    FILE ++ (replicate 20 0 ++ (le_bytes 4 u ++ (replicate (p - 28) 0 ++ (b ++ replicate (m - p - length b) 0))))
 
 -- accepted, the end, or the refusal, whatever the value
 abbrev pub verdict : {A : Type 0} → Answer A → Answer Unit
@@ -94,8 +101,26 @@ rows =
     ∷ row entry 96 64 (entry_bytes 40 0) ends
     -- 26 left, length 28, one unit gives 16
     ∷ row entry 96 70 (entry_bytes 28 1) (refused EntryNameCut 70)
+    -- used size 72 in 72 bytes accepted, 73 gives 27 at 0
+    ∷ row_used step 72 72 56 (16 ∷ 0 ∷ 0 ∷ 0 ∷ 16 ∷ []) (gives tt)
+    ∷ row_used step 72 73 56 (16 ∷ 0 ∷ 0 ∷ 0 ∷ 16 ∷ []) (refused UsedSize 0)
+    -- an attribute that ends at 88: used size 88 accepted, 87 gives 28, in a name and a value too
+    ∷ row_used step 96 88 56 (attribute 32 0 0 none 24) (gives tt)
+    ∷ row_used step 96 87 56 (attribute 32 0 0 none 24) (refused AttributeStale 56)
+    ∷ row_used name 96 88 56 (attribute 32 0 0 none 24) (gives tt)
+    ∷ row_used name 96 87 56 (attribute 32 0 0 none 24) (refused AttributeStale 56)
+    ∷ row_used value 96 88 56 (attribute 32 0 0 none 24) (gives tt)
+    ∷ row_used value 96 87 56 (attribute 32 0 0 none 24) (refused AttributeStale 56)
+    -- 3, 4 and 5 come before 28
+    ∷ row_used step 64 0 60 (16 ∷ []) (refused AttributeCut 60)
+    ∷ row_used step 96 0 56 (attribute 15 0 0 none 0) (refused AttributeShort 56)
+    ∷ row_used step 72 0 56 (16 ∷ 0 ∷ 0 ∷ 0 ∷ 17 ∷ []) (refused AttributeLong 56)
+    -- the end marker and 3 bytes left end the walk past the used size too
+    ∷ row_used step 96 0 56 most ends
+    ∷ row_used step 64 0 61 (16 ∷ []) ends
     ∷ []
 
 -- each question is answered so
 abbrev pub BothSides : Type 0
-BothSides = map (λ r. answer_to r.asks (record_with r.long r.place r.bytes) r.place) rows ≡ map (λ r. r.says) rows
+BothSides =
+    map (λ r. answer_to r.asks (record_with r.long r.used r.place r.bytes) r.place) rows ≡ map (λ r. r.says) rows

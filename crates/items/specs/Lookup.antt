@@ -1,5 +1,5 @@
 -- RULES 11: a number is looked up in the base record, where it is the base's own, else in the table. The record must
--- pass check 2.
+-- pass checks 2 and 27.
 use Rattle.std.specs.Prelude.{ℕ, List, eqb, Option, Some, None}
 use Rattle.fields.specs.Pick.{pick}
 use Rattle.fields.specs.Answer.{Outcome, refuses, refusal}
@@ -8,7 +8,7 @@ use Rattle.fields.specs.declared.Refusal.{Refusal}
 use Rattle.fields.specs.declared.Cause.TheVariants.{NoRecord}
 use Rattle.record.specs.Open.{Lent, check_file}
 
--- 2 in the record found; 17 where there is none
+-- 2 and 27 in the record found; 17 where there is none
 unfoldable pub opened_as : RecordNumber → Refusal → Option (List ℕ) → Outcome Lent
 opened_as wanted miss None = refuses miss
 opened_as wanted miss (Some s) = check_file s wanted

@@ -1,5 +1,5 @@
--- RULES 17: one read. Each attribute that passes 3 to 5 and each entry given is one, each time, in items, lookups
--- and parts.
+-- RULES 17: one read. Each attribute that passes 3 to 5 and 28 and each entry given is one, each time, in items,
+-- lookups and parts.
 use Rattle.std.specs.Prelude.{ℕ}
 use Rattle.fields.specs.declared.RecordNumber.{RecordNumber}
 use Rattle.record.specs.declared.layout.Attribute.{Attribute}

@@ -1,5 +1,5 @@
--- What opening a file says: 21, then 1 and 2 (RULES 3, 10); and what a search says that hands out the attribute with
--- its record (RULES 12).
+-- What opening a file says: 21, then 1, 2 and 27 (RULES 3, 10); and what a search says that hands out the attribute
+-- with its record (RULES 12).
 use Rattle.std.specs.Prelude.{ℕ, List}
 use Rattle.fields.specs.Answer.{Outcome, Report, report, ◌⟫◌}
 use Rattle.fields.specs.Told.{told_as}

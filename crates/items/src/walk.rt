@@ -126,8 +126,8 @@ impl<'a> File<'a> {
         e.file == self.base.number || key == Some(Key::of(e))
     }
 
-    /// The attribute that an entry at a place of the base record names, in the record that it names: 17 and 2, then 3
-    /// to 6 and 18.
+    /// The attribute that an entry at a place of the base record names, in the record that it names: 17, 2 and 27, then
+    /// 3 to 6, 28 and 18.
     #[inline(always)]
     #[tactic(auto, unfolding(crate::specs::Items::sought_of, crate::specs::Items::found_in))]
     pub fn sought(&self, e: &Entry, place: usize) -> Counted<Located<'a>>

@@ -10,6 +10,7 @@ use Rattle.fields.specs.declared.Cause.TheVariants.{NameEnd, ValueOffset, ValueE
 use Rattle.fields.specs.declared.Cause.TheVariants.{ListNotResident, EntryCut, EntryShort, EntryNameCut}
 use Rattle.fields.specs.declared.Cause.TheVariants.{NoRecord, NoAttribute, PartResident, NoRoom}
 use Rattle.fields.specs.declared.Cause.TheVariants.{BadTable, BadState, RunSize, RunCut, RunEmpty, RunRange}
+use Rattle.fields.specs.declared.Cause.TheVariants.{UsedSize, AttributeStale}
 use Rattle.command.specs.Explain.{explained}
 use Rattle.command.specs.declared.explain.TheConstants.{CAUSES}
 
@@ -40,6 +41,8 @@ small RunSize = omega arith
 small RunCut = omega arith
 small RunEmpty = omega arith
 small RunRange = omega arith
+small UsedSize = omega arith
+small AttributeStale = omega arith
 
 none_in : (n : ℕ) → 255 < n → (cs : List Cause) → explained cs n ≡ None
 none_in n more [] = refl

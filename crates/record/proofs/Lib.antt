@@ -9,3 +9,5 @@ pub mod Spans
 pub mod Takes
 pub mod Readers
 pub mod Settled
+mod Tails
+mod TailContents

@@ -34,17 +34,14 @@ module _ (s : List ℕ) (n : RecordNumber) (h : Attribute) where
   unfolding list_in
   list-ends p e i = let t = back (full_in s n h) (list_after s n h) p e in list-after t.first p t.next i
 
-  list-lies : Inside s h → (p : Span) → list_in s n h ≡ gives p → ListLies s n h p
+  pub list-lies : Inside s h → (p : Span) → list_in s n h ≡ gives p → ListLies s n h p
   list-lies i p e =
-      let t = list-ends p e i.most in let m = i.most in let y = t.0 in let z = t.1 in
-      record { most = omega arith; short = omega arith }
-
-  pub list-fits : Inside s h → (p : Span) → list_in s n h ≡ gives p → p.from + p.bytes ≤ length s
-  list-fits i p e = (list-lies i p e).most
-
-  -- a list is no longer than the attribute that holds it
-  pub list-short : Inside s h → (p : Span) → list_in s n h ≡ gives p → p.bytes ≤ h.length
-  list-short i p e = (list-lies i p e).short
+      let t = list-ends p e i.most in
+      let m = i.most in
+      let u = i.used in
+      let y = t.0 in
+      let z = t.1 in
+      record { most = omega arith; used = omega arith; short = omega arith }
 
 -- some bytes of an attribute inside the record lie inside it
 piece-lies : (s : List ℕ) (h : Attribute) (from bytes : ℕ) → Inside s h → from + bytes ≤ h.length
@@ -52,12 +49,13 @@ piece-lies : (s : List ℕ) (h : Attribute) (from bytes : ℕ) → Inside s h �
 unfolding piece_of
 piece-lies s h from bytes i l =
     let m = i.most in
+    let u = i.used in
     let k : bytes ≤ length (drop (h.offset + from) s) = omega (arith, length-drop (h.offset + from) s) in
     let e = length-take-le bytes (drop (h.offset + from) s) k in
-    record { bytes = rw e refl; most = rw e (omega arith) }
+    record { bytes = rw e refl; most = rw e (omega arith); used = rw e (omega arith) }
 
 empty-lies : (s : List ℕ) → Lies s empty
-empty-lies s = record { bytes = grind (arith, common_steps); most = omega arith }
+empty-lies s = record { bytes = grind (arith, common_steps); most = omega arith; used = omega arith }
 
 module _ (s : List ℕ) (n : RecordNumber) (h : Attribute) (i : Inside s h) where
   name-lies : (p : Piece) → name_in s n h ≡ gives p → Lies s p

@@ -1,12 +1,13 @@
--- RULES 4: an attribute's first sixteen bytes (ATTRIBUTE_RECORD_HEADER), and the checks 3, 4 and 5 of whoever reads
--- one.
+-- RULES 4: an attribute's first sixteen bytes (ATTRIBUTE_RECORD_HEADER), and the checks 3, 4, 5 and 28 of whoever
+-- reads one.
 use Rattle.std.specs.Prelude.{ℕ, ◌+◌, ◌-◌, List, length, get_or, ltb, eqb}
 use Rattle.fields.specs.Pick.{pick}
 use Rattle.fields.specs.Le.{le}
 use Rattle.fields.specs.Answer.{Outcome, gives, refuses, refusal}
 use Rattle.fields.specs.Known.{attribute_flags}
 use Rattle.fields.specs.declared.RecordNumber.{RecordNumber}
-use Rattle.fields.specs.declared.Cause.TheVariants.{AttributeCut, AttributeShort, AttributeLong}
+use Rattle.fields.specs.declared.Cause.TheVariants.{AttributeCut, AttributeShort, AttributeLong, AttributeStale}
+use Rattle.record.specs.Header.{used_size}
 use Rattle.record.specs.declared.layout.Attribute.{Attribute}
 
 -- the bytes that every attribute has
@@ -26,10 +27,12 @@ attribute_at s at = record {
   instance = le 2 s (at + 14);
 }
 
--- 3: under 16 bytes left; 4: a length under 16; 5: longer than what is left. Past the record's end nothing is left
+-- 3: under 16 bytes left; 4: a length under 16; 5: longer than what is left; 28: it ends past the used size. Past the
+-- record's end nothing is left
 unfoldable pub checked_at : List ℕ → RecordNumber → ℕ → Outcome Attribute
 checked_at s n at =
     pick (ltb (length s - at) header_size) (refuses (refusal AttributeCut n at))
     (pick (ltb (attribute_at s at).length header_size) (refuses (refusal AttributeShort n at))
     (pick (ltb (length s - at) (attribute_at s at).length) (refuses (refusal AttributeLong n at))
-    (gives (attribute_at s at))))
+    (pick (ltb (used_size s) (at + (attribute_at s at).length)) (refuses (refusal AttributeStale n at))
+    (gives (attribute_at s at)))))

@@ -20,3 +20,7 @@ header_of s = record {
 -- where the raw walk starts (RULES 5); 0 for bytes that end before that field
 unfoldable pub first_attribute : List ℕ → ℕ
 first_attribute s = pick (ltb (length s) 22) 0 (le 2 s 20)
+
+-- where the used part ends (RULES 3.4, 4.5); 0 for bytes that end before that field
+unfoldable pub used_size : List ℕ → ℕ
+used_size s = pick (ltb (length s) 28) 0 (le 4 s 24)

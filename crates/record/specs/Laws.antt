@@ -1,12 +1,13 @@
 -- What holds of this chapter whatever the bytes; src/laws.rt has the functions whose contracts these are.
-use Rattle.std.specs.Prelude.{ℕ, suc, ◌+◌, ◌-◌, ◌*◌, ◌<◌, ◌≤◌, ◌≡◌, List, length, take, drop, Option, None}
+use Rattle.std.specs.Prelude.{ℕ, suc, ◌+◌, ◌-◌, ◌*◌, ◌<◌, ◌≤◌, ◌≡◌, List, [], ◌∷◌, length, take, drop, get_or}
+use Rattle.std.specs.Prelude.{Option, None}
 use Rattle.std.specs.Prelude.{Result, Ok, Err}
 use Rattle.fields.specs.Answer.{Outcome, Answer, gives, ends, refuses}
 use Rattle.fields.specs.Told.{told_as, told_step}
 use Rattle.fields.specs.Trail.{run}
 use Rattle.fields.specs.declared.RecordNumber.{RecordNumber}
 use Rattle.fields.specs.declared.Refusal.{Refusal}
-use Rattle.record.specs.Header.{first_attribute}
+use Rattle.record.specs.Header.{first_attribute, used_size}
 use Rattle.record.specs.Attribute.{header_size, attribute_at, checked_at}
 use Rattle.record.specs.Inside.{Inside}
 use Rattle.record.specs.Walk.{step_at, walk_from, attributes_of}
@@ -64,12 +65,14 @@ abbrev pub TakesSettle : Type 0
 TakesSettle = (q r t : Reader) (x y : Result (Option Attribute) Refusal) → Takes q x r → Takes q y t
     → (x ≡ y) × (r ≡ t)
 
--- RULES 4: an attribute at a place is what the bytes there say, is at least 16 long, and ends inside the record
+-- RULES 4: an attribute at a place is what the bytes there say, is at least 16 long, and ends inside the record and
+-- its used part
 pub record Stands (s : List ℕ) (at : ℕ) (h : Attribute) : Type 0 where
   pub is : h ≡ attribute_at s at
   pub stands : h.offset ≡ at
   pub least : header_size ≤ h.length
   pub most : at + h.length ≤ length s
+  pub used : at + h.length ≤ used_size s
 
 abbrev pub CheckedStand : Type 0
 CheckedStand = (s : List ℕ) (n : RecordNumber) (at : ℕ) (h : Attribute) → checked_at s n at ≡ gives h → Stands s at h
@@ -82,6 +85,32 @@ SteppedStand = (s : List ℕ) (n : RecordNumber) (at : ℕ) (h : Attribute) → 
 abbrev pub WalksEnd : Type 0
 WalksEnd = (s : List ℕ) (n : RecordNumber) (at f : ℕ) → length s - at < f
     → run (step_at s n) (λ h. h.length) f at ≡ walk_from s n at
+
+-- the attributes that a walk gives
+unfoldable pub given : List (Outcome Attribute) → List Attribute
+given [] = []
+given (gives h ∷ xs) = h ∷ given xs
+given (refuses r ∷ xs) = []
+
+-- records of one length with the same bytes in the used part, which holds the used size itself
+pub record UsedAlike (s t : List ℕ) : Type 0 where
+  pub long : length s ≡ length t
+  pub reach : 28 ≤ used_size s
+  pub bytes : (k : ℕ) → k < used_size s → get_or s k 0 ≡ get_or t k 0
+
+-- RULES 4.5: they have the same attributes, so that nothing behind the used part makes one, or changes or hides one
+abbrev pub TailsGiveNothing : Type 0
+TailsGiveNothing = (s t : List ℕ) (n : RecordNumber) → UsedAlike s t
+    → given (attributes_of s n) ≡ given (attributes_of t n)
+
+-- RULES 6, 7, 8: nor does it change what an attribute of the used part tells
+pub record TellAlike (s t : List ℕ) (n : RecordNumber) (h : Attribute) : Type 0 where
+  pub name : name_in s n h ≡ name_in t n h
+  pub value : value_in s n h ≡ value_in t n h
+  pub list : list_in s n h ≡ list_in t n h
+
+abbrev pub TailsChangeNothing : Type 0
+TailsChangeNothing = (s t : List ℕ) (n : RecordNumber) (h : Attribute) → UsedAlike s t → Inside s h → TellAlike s t n h
 
 -- RULES 5: takes one after another, from a reader at the first attribute on, are the raw walk: the k-th answers the
 -- walk's k-th answer, and stands at its place
@@ -127,10 +156,11 @@ EndsRest = (q r : Reader) → Takes q (Ok None) r → r ≡ q
 abbrev pub RefusalsRest : Type 0
 RefusalsRest = (q r : Reader) (f : Refusal) → Takes q (Err f) r → r ≡ q
 
--- RULES 6, 7: a piece that lies inside a record
+-- RULES 6, 7: a piece that lies inside a record and its used part
 pub record Lies (s : List ℕ) (p : Piece) : Type 0 where
   pub bytes : p.bytes ≡ take (length p.bytes) (drop p.from s)
   pub most : p.from + length p.bytes ≤ length s
+  pub used : p.from + length p.bytes ≤ used_size s
 
 -- the bytes that a value tells of: its own, or its runs
 abbrev pub told_of : Contents → Piece
@@ -148,6 +178,7 @@ module _ (s : List ℕ) (n : RecordNumber) where
   -- RULES 8: a list lies inside it too, and is no longer than the attribute that opened it
   pub record ListLies (h : Attribute) (p : Span) : Type 0 where
     pub most : p.from + p.bytes ≤ length s
+    pub used : p.from + p.bytes ≤ used_size s
     pub short : p.bytes ≤ h.length
 
   -- of the attribute at an offset

@@ -17,6 +17,6 @@ name_in s n h =
     (pick (ltb h.length (h.name_offset + 2 * h.name_units)) (refuses (refusal NameEnd n h.offset))
     (gives (piece_of s h h.name_offset (2 * h.name_units)))))
 
--- of the attribute at an offset: 3 to 5 first
+-- of the attribute at an offset: 3 to 5 and 28 first
 unfoldable pub name_of : List ℕ → RecordNumber → ℕ → Outcome Piece
 name_of s n at = checked_at s n at ⟫ name_in s n

@@ -1,10 +1,11 @@
--- RULES 3: the opening checks, 1 and 2. Their place is 0, in the record tested.
-use Rattle.std.specs.Prelude.{ℕ, List, [], ◌∷◌, Bool, length, take, eqb, bytes_eq}
+-- RULES 3: the opening checks, 1, 2 and 27. Their place is 0, in the record tested.
+use Rattle.std.specs.Prelude.{ℕ, List, [], ◌∷◌, Bool, length, take, eqb, ltb, bytes_eq}
 use Rattle.fields.specs.Pick.{pick}
 use Rattle.fields.specs.Length.{good_length}
 use Rattle.fields.specs.Answer.{Outcome, gives, refuses, refusal}
-use Rattle.fields.specs.declared.Cause.TheVariants.{RecordLength, NotFile}
+use Rattle.fields.specs.declared.Cause.TheVariants.{RecordLength, NotFile, UsedSize}
 use Rattle.fields.specs.declared.RecordNumber.{RecordNumber}
+use Rattle.record.specs.Header.{used_size}
 
 abbrev pub FILE : List ℕ
 FILE = 0x46 ∷ 0x49 ∷ 0x4C ∷ 0x45 ∷ []
@@ -21,11 +22,15 @@ pub record Lent : Type 0 where
 abbrev pub lent : List ℕ → RecordNumber → Lent
 lent s n = record { bytes = s; number = n }
 
--- 2: it doesn't begin with FILE
-unfoldable pub check_file : List ℕ → RecordNumber → Outcome Lent
-check_file s n = pick (is_file s) (gives (lent s n)) (refuses (refusal NotFile n 0))
+-- 27: its used size is above its length
+unfoldable pub check_used : List ℕ → RecordNumber → Outcome Lent
+check_used s n = pick (ltb (length s) (used_size s)) (refuses (refusal UsedSize n 0)) (gives (lent s n))
 
--- 1: no length of a record; then 2
+-- 2: it doesn't begin with FILE; then 27
+unfoldable pub check_file : List ℕ → RecordNumber → Outcome Lent
+check_file s n = pick (is_file s) (check_used s n) (refuses (refusal NotFile n 0))
+
+-- 1: no length of a record; then 2 and 27
 unfoldable pub open_of : List ℕ → RecordNumber → Outcome Lent
 open_of s n = pick (good_length (length s)) (check_file s n) (refuses (refusal RecordLength n 0))
 

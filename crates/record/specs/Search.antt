@@ -1,5 +1,5 @@
--- RULES 12: the attribute with a type and an instance, the first in raw order; before it 3 to 6 refuse, without it
--- the caller's 18.
+-- RULES 12: the attribute with a type and an instance, the first in raw order; before it 3 to 6 and 28 refuse, without
+-- it the caller's 18.
 use Rattle.std.specs.Prelude.{ℕ, List, [], ◌∷◌, ◌&&◌, eqb, length}
 use Rattle.fields.specs.Pick.{pick}
 use Rattle.fields.specs.Answer.{Outcome, gives, refuses, refusal, Report, report}

@@ -80,7 +80,7 @@ module _ (s : List ℕ) (n : RecordNumber) where
   unfoldable pub list_in : Attribute → Outcome Span
   list_in h = full_in h ⟫ list_after h
 
-  -- of the attribute at an offset: 3 to 5 first
+  -- of the attribute at an offset: 3 to 5 and 28 first
   unfoldable pub full_of : ℕ → Outcome FullHeader
   full_of at = checked_at s n at ⟫ full_in
 

@@ -10,7 +10,7 @@ use Rattle.record.specs.Header.{first_attribute}
 use Rattle.record.specs.Attribute.{checked_at}
 use Rattle.record.specs.declared.layout.Attribute.{Attribute}
 
--- under 4 bytes left, or the end marker: the end; else the attribute there, by 3, 4 and 5
+-- under 4 bytes left, or the end marker: the end; else the attribute there, by 3, 4, 5 and 28
 unfoldable pub step_at : List ℕ → RecordNumber → ℕ → Answer Attribute
 step_at s n at =
     pick (ltb (length s - at) 4) ends

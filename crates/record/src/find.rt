@@ -11,8 +11,8 @@ impl<'a> Record<'a> {
     ghost use Rattle.record.specs.Walk.{attributes_of};
     ghost use Rattle.record.specs.Search.{find_in, count_of};
 
-    /// The first attribute, in raw order, of a type and an instance; before it 3 to 6 refuse; `miss` where there is
-    /// none.
+    /// The first attribute, in raw order, of a type and an instance; before it 3 to 6 and 28 refuse; `miss` where
+    /// there is none.
     #[tactic(auto, using(crate::proofs::Searches::searches), unfolding(crate::specs::Search::find_in))]
     pub fn find(&self, ty: u32, instance: u16, miss: Refusal) -> Counted<Attribute>
         ensures answer { let attributes = attributes_of self.now.bytes.now self.now.number in

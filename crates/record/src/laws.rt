@@ -1,7 +1,7 @@
 //! What holds of a record's attributes, names, values, search and reader whatever the bytes, each law the contract of
 //! a function that does nothing.
 ghost use Rattle.record.specs.Laws.{RecordsSettle, ViewsSettle, ValuesSettle, TakesSettle};
-ghost use Rattle.record.specs.Laws.{CheckedStand, SteppedStand, WalksEnd};
+ghost use Rattle.record.specs.Laws.{CheckedStand, SteppedStand, TailsGiveNothing, TailsChangeNothing, WalksEnd};
 ghost use Rattle.record.specs.Laws.{TakesWalk, PlacesRise, EndsStay, RefusalsStay, EndsRest, RefusalsRest};
 ghost use Rattle.record.specs.Laws.{NamesLie, ValuesLie, ListsLie, SearchesReadFew, FoundLie, FoundStand};
 
@@ -13,11 +13,18 @@ pub fn results_settle()
     ensures takes { TakesSettle }
 {}
 
-/// An attribute that is given is what stands at its offset, is at least 16 bytes long and ends inside the record
-/// (RULES 4).
+/// An attribute that is given is what stands at its offset, is at least 16 bytes long and ends inside the record and
+/// its used part (RULES 4).
 pub fn attributes_stand()
     ensures checked { CheckedStand }
     ensures stepped { SteppedStand }
+{}
+
+/// What stands behind the used part makes no attribute, and changes or hides none, nor its name, value or list (RULES 4
+/// to 8).
+pub fn tails_tell_nothing()
+    ensures attributes { TailsGiveNothing }
+    ensures contents { TailsChangeNothing }
 {}
 
 /// The raw walk ends (RULES 5).
@@ -36,7 +43,7 @@ pub fn takes_walk()
     ensures refusal_rests { RefusalsRest }
 {}
 
-/// A name, a value's bytes, run bytes and a list lie inside the record (RULES 6, 7, 8).
+/// A name, a value's bytes, run bytes and a list lie inside the record and its used part (RULES 6, 7, 8).
 pub fn views_lie_inside()
     ensures names { NamesLie }
     ensures values { ValuesLie }

@@ -11,8 +11,8 @@ mod values;
 ghost use Rattle.std.specs.Prelude.{◌≡◌, ◌≤◌, length};
 ghost use Rattle.fields.specs.Answer.{gives};
 ghost use Rattle.fields.specs.Told.{told_as};
-ghost use Rattle.record.specs.Open.{open_of, is_file, lent};
-ghost use Rattle.record.specs.Header.{first_attribute};
+ghost use Rattle.record.specs.Open.{open_of, check_file, is_file, lent};
+ghost use Rattle.record.specs.Header.{first_attribute, used_size};
 
 pub use attributes::Attributes;
 use fields::bytes::{u16_at, u32_at};
@@ -21,7 +21,7 @@ pub use layout::{Attribute, FullHeader, NonResidentHeader, RecordHeader, Residen
 pub use reader::Reader;
 pub use values::{Located, Value, View};
 
-/// The bytes of a record, which passed checks 1 and 2 (RULES 3), and its number.
+/// The bytes of a record, which passed checks 1, 2 and 27 (RULES 3), and its number.
 #[derive(Clone, Copy)]
 pub struct Record<'a> {
     pub bytes: &'a [u8],
@@ -34,6 +34,8 @@ pub struct Record<'a> {
 const SIGNATURE: &[u8; 4] = b"FILE";
 
 const FIRST_ATTRIBUTE: usize = 20;
+
+const USED_SIZE: usize = 24;
 
 const RECORD_FLAGS: u16 = 0x0003;
 
@@ -60,18 +62,39 @@ pub fn first_attribute(s: &[u8]) -> usize
     usize::from(u16_at(s, FIRST_ATTRIBUTE))
 }
 
-// Checks 1 and 2.
-#[tactic(auto, unfolding(crate::specs::Open::open_of, crate::specs::Open::check_file))]
+// Where the used part of these bytes ends, an offset in bytes. No Option: a record's length has been tested.
+#[tactic(auto, unfolding(crate::specs::Header::used_size))]
+fn used_size(s: &[u8]) -> usize
+    requires { 28 ≤ length s.now }
+    ensures { result ≡ used_size s.now }
+{
+    u32_at(s, USED_SIZE) as usize
+}
+
+// Checks 2 and 27 of bytes that have a record's length.
+#[tactic(auto, unfolding(crate::specs::Open::check_file, crate::specs::Open::check_used))]
+fn check_file(bytes: &[u8], number: RecordNumber) -> Result<(), Refusal>
+    requires { 28 ≤ length bytes.now }
+    ensures { told_as (λ _. lent bytes.now number) result ≡ check_file bytes.now number }
+{
+    if !is_file(bytes) {
+        return Cause::NotFile.refuses(number, 0);
+    }
+    if bytes.len() < used_size(bytes) {
+        return Cause::UsedSize.refuses(number, 0);
+    }
+    Ok(())
+}
+
+// Checks 1, 2 and 27.
+#[tactic(auto, using(crate::proofs::Opened::reaches_used), unfolding(crate::specs::Open::open_of))]
 fn check(bytes: &[u8], number: RecordNumber) -> Result<(), Refusal>
     ensures { told_as (λ _. lent bytes.now number) result ≡ open_of bytes.now number }
 {
     if !good_length(bytes.len()) {
         return Cause::RecordLength.refuses(number, 0);
     }
-    if !is_file(bytes) {
-        return Cause::NotFile.refuses(number, 0);
-    }
-    Ok(())
+    check_file(bytes, number)
 }
 
 impl<'a> Record<'a> {
@@ -86,7 +109,7 @@ impl<'a> Record<'a> {
     ghost use Rattle.record.specs.Told.{shown_record};
     ghost use Rattle.record.specs.Rest.{rest};
 
-    /// Checks 1 and 2: no record is made without them.
+    /// Checks 1, 2 and 27: no record is made without them.
     #[tactic(auto, using(crate::proofs::Opened::opened))]
     pub fn open(bytes: &'a [u8], number: RecordNumber) -> Result<Record<'a>, Refusal>
         ensures { told_as shown_record result ≡ open_of bytes.now number }
@@ -128,7 +151,7 @@ impl<'a> Record<'a> {
             links: u16_at(s, 18),
             first_attribute: u16_at(s, FIRST_ATTRIBUTE),
             flags: u16_at(s, 22) & RECORD_FLAGS,
-            used: u32_at(s, 24),
+            used: u32_at(s, USED_SIZE),
             allocated: u32_at(s, 28),
         }
     }
@@ -151,7 +174,8 @@ impl<'a> Record<'a> {
         }
     }
 
-    /// The attribute at an offset: checks 3, 4 and 5 (RULES 4). One that is given lies inside the record.
+    /// The attribute at an offset: checks 3, 4, 5 and 28 (RULES 4). One that is given lies inside the used part of the
+    /// record.
     #[tactic(auto, using(crate::proofs::Given::placed), unfolding(crate::specs::Attribute::checked_at))]
     pub fn attribute(&self, at: usize) -> Result<Attribute, Refusal>
         ensures answer { told result ≡ checked_at self.now.bytes.now self.now.number at }
@@ -168,10 +192,13 @@ impl<'a> Record<'a> {
         if left < h.length {
             return self.refused(Cause::AttributeLong, at);
         }
+        if used_size(self.bytes) < at + h.length {
+            return self.refused(Cause::AttributeStale, at);
+        }
         Ok(h)
     }
 
-    /// One step of the raw walk at any place: the attribute there, the end, or 3 to 5 (RULES 5).
+    /// One step of the raw walk at any place: the attribute there, the end, or 3 to 5 and 28 (RULES 5).
     #[tactic(auto, unfolding(crate::specs::Walk::step_at))]
     pub fn step(&self, at: usize) -> Result<Option<Attribute>, Refusal>
         ensures answer { told_step result ≡ step_at self.now.bytes.now self.now.number at }

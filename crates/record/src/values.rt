@@ -199,7 +199,7 @@ impl<'a> Record<'a> {
     ghost use Rattle.record.specs.Value.{full_of, value_of};
     ghost use Rattle.record.specs.Told.{attribute_of, piece, shown_value};
 
-    /// The attribute at an offset with this record: 3 to 5.
+    /// The attribute at an offset with this record: 3 to 5 and 28.
     pub fn located(&self, at: usize) -> Result<Located<'a>, Refusal>
         ensures answer { told_as attribute_of result ≡ checked_at self.now.bytes.now self.now.number at }
         ensures within { IfOk result (λ l. l.within ≡ self.now) }
@@ -210,7 +210,7 @@ impl<'a> Record<'a> {
         })
     }
 
-    /// The name of the attribute at an offset: 3 to 5, then 8 and 9.
+    /// The name of the attribute at an offset: 3 to 5 and 28, then 8 and 9.
     #[tactic(auto, unfolding(crate::specs::Name::name_of))]
     pub fn name(&self, at: usize) -> Result<View<'a>, Refusal>
         ensures { told_as piece result ≡ name_of self.now.bytes.now self.now.number at }
@@ -218,7 +218,7 @@ impl<'a> Record<'a> {
         self.located(at)?.name()
     }
 
-    /// The full header of the attribute at an offset: 3 to 5, then 7.
+    /// The full header of the attribute at an offset: 3 to 5 and 28, then 7.
     #[tactic(auto, unfolding(crate::specs::Value::full_of))]
     pub fn full(&self, at: usize) -> Result<FullHeader, Refusal>
         ensures { told result ≡ full_of self.now.bytes.now self.now.number at }
@@ -226,7 +226,7 @@ impl<'a> Record<'a> {
         self.located(at)?.full()
     }
 
-    /// The value of the attribute at an offset: 3 to 5, then 7, then 10 and 11, or 12.
+    /// The value of the attribute at an offset: 3 to 5 and 28, then 7, then 10 and 11, or 12.
     #[tactic(auto, unfolding(crate::specs::Value::value_of))]
     pub fn value(&self, at: usize) -> Result<Value<'a>, Refusal>
         ensures { told_as shown_value result ≡ value_of self.now.bytes.now self.now.number at }

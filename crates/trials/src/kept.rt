@@ -57,6 +57,8 @@ pub(crate) fn long_table() -> [u8; LONG] {
     bytes[5] = 16;
     bytes[RECORDS..RECORDS + 4].copy_from_slice(b"FILE");
     bytes[RECORDS + 20] = 56;
+    // its used size, 4,096
+    bytes[RECORDS + 25] = 16;
     for k in 0..ATTRIBUTES {
         let at = RECORDS + 56 + 16 * k;
         bytes[at] = 16;

@@ -68,6 +68,8 @@ mod tests {
         let mut bytes = [0u8; 128];
         bytes[..4].copy_from_slice(b"FILE");
         bytes[20] = 56;
+        // used up to the end marker
+        bytes[24] = 116;
         // two attributes of 32 and of 24 bytes, then the end marker
         bytes[56] = 16;
         bytes[60] = 32;

@@ -7,6 +7,8 @@ told besides, `directory` (rows), `single` (one record) and `objects` (JSON). Ap
 and in `listing`: they are the rules' longest tale, told by two who share nothing of it but the attribute, the entry and
 the search.
 
+`without_used_sizes` turns 27 and 28 off, so that it can be told what they alone decide.
+
 In the modules on records, entries, runs and tables a refusal is raised; in those on walks it is a value, since a
 walk goes on behind it. An end is None, everything else is returned. Offsets that an answer tells of count from the
 record's start.
@@ -15,7 +17,6 @@ from .answers import Attribute, Entry, Header, NonResident, Refusal, Resident, R
 from .entries import entry, entry_name
 from .record import (
     ATTRIBUTE_FLAGS, KNOWN, LIST, MARKER, attribute_at, find, first_place, full, header, name, opened_list, opening,
-    step, value,
-    view, walk,
+    step, used_size, value, view, walk, without_used_sizes,
 )
 from .table import base_row, check_table, lookup, lookup_view, open_table, rows

@@ -1,6 +1,6 @@
 """A second reading of the rules on rows (RULES 18.9): what a table holds, a line for each row of its directory."""
 from .answers import Refusal
-from .listing import text_of
+from .listing import no_file, text_of
 from .record import number_at
 from .table import check_table
 from .table import rows as rows_of
@@ -12,9 +12,9 @@ PLACE_AT, ROW_BYTES = 8, 12
 
 
 def state_said(record):
-    """What a line says of a row's record: not FILE comes before the flag."""
-    if record[:4] != b"FILE":
-        return "refused 2"
+    """What a line says of a row's record: 2 and 27 come before the flag."""
+    if no_file(record):
+        return "refused %d" % no_file(record)
     return "used" if number_at(record, FLAGS_AT, 2) & IN_USE else "free"
 
 

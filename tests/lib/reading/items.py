@@ -70,7 +70,7 @@ def fresh(record):
 
 
 def opened(record, number, table):
-    """21, 1 and 2; the table that they let pass (RULES 13)."""
+    """21, 1, 2 and 27; the table that they let pass (RULES 13)."""
     t = table_of(table)
     opening(record, number, t.size)
     return t
@@ -117,7 +117,7 @@ def in_record(record, number, state):
     try:
         a = raw_step(record, number, raw)
     except Refusal as refusal:
-        # 3, 4, 5: the raw place stays
+        # 3, 4, 5, 28: the raw place stays
         return refusal, state, 0
     if a is None:
         return None, state, 0

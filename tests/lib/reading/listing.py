@@ -8,12 +8,15 @@ from typing import NamedTuple
 from .answers import Refusal, Span
 from .entries import entry
 from .items import fresh, next_in, table_of
-from .record import KNOWN, find, full_of, name, value
+from .record import CONSULTED, KNOWN, find, full_of, name, number_at, value
 from .runs import all_runs
 
 # RULES 18: a longer input counts as malformed; room for the parts of an item
 MOST = 65536
 ROOM = 157
+
+# RULES 3.1: where a record's used size stands
+USED_AT = 24
 
 
 class Part(NamedTuple):
@@ -32,13 +35,20 @@ def held_by(record, number, rows, wanted):
     return record if wanted == number else rows.get(wanted)
 
 
+def no_file(record):
+    """Which of 2 and 27 refuses a whole record, 0 where neither does (RULES 3)."""
+    if record[:4] != b"FILE":
+        return 2
+    return 27 if CONSULTED.get() and number_at(record, USED_AT, 4) > len(record) else 0
+
+
 def part_of(record, number, rows, e, place):
     """The part that an entry leads to: (reads, part or refusal). The entry stands at `place` in the base record."""
     found = held_by(record, number, rows, e.file)
     if found is None:
         return 0, Refusal(17, number, place)
-    if found[:4] != b"FILE":
-        return 0, Refusal(2, e.file, 0)
+    if no_file(found):
+        return 0, Refusal(no_file(found), e.file, 0)
     reads, a = find(found, e.file, e.ty, e.instance, number, place)
     if isinstance(a, Refusal):
         return reads, a
@@ -171,8 +181,8 @@ def lines(table, wanted=None, most=MOST):
     record = t.rows[number]
     yield "record %d size %d" % (number, t.size)
     # a refusal of the walk, or of the base record, is the last line
-    if record[:4] != b"FILE":
-        yield "stopped 2 reads 0"
+    if no_file(record):
+        yield "stopped %d reads 0" % no_file(record)
         return
     state, reads = fresh(record), 0
     while True:

@@ -95,7 +95,7 @@ def parts_in(record, number, rows, rest, room=ROOM):
 
 def parts_of(record, number, table, rest, room=ROOM):
     """One call for any place that is lent."""
-    # 21, 1, 2, 22, in this order
+    # 21, 1, 2, 27, 22, in this order
     try:
         t = opened(record, number, table)
         within(rest, record, number)

@@ -1,4 +1,7 @@
 """A second reading of the rules on one record and its attributes (RULES 1 to 7 and 12)."""
+import contextlib
+import contextvars
+
 from .answers import Attribute, Header, NonResident, Refusal, Resident, Runs, Span
 
 MARKER = 0xFFFFFFFF
@@ -14,27 +17,55 @@ ATTRIBUTE_FLAGS = 0x0001 | 0x4000 | 0x8000
 RECORD_FLAGS = 0x0001 | 0x0002
 
 
+# Whether the used sizes are consulted, which is what the rules say. Without 27 and 28 this reads as it would have
+# before they were rules: what the two answer differently is what those two decide.
+CONSULTED = contextvars.ContextVar("used sizes are consulted", default=True)
+
+
+@contextlib.contextmanager
+def without_used_sizes():
+    """27 and 28 are given by nothing that is read inside this block."""
+    before = CONSULTED.set(False)
+    try:
+        yield
+    finally:
+        CONSULTED.reset(before)
+
+
 def number_at(record, at, width):
     """RULES 1: the lowest byte comes first."""
     assert 0 <= at and at + width <= len(record)
     return int.from_bytes(record[at:at + width], "little")
 
 
+def used_size(record):
+    """0 where the bytes end before that field (RULES 3)."""
+    return number_at(record, 24, 4) if len(record) >= 28 else 0
+
+
+def opened_file(record, number):
+    """Checks 2 and 27, of the base record and of one that is looked up alike (RULES 3)."""
+    # 2, the first four bytes; both at place 0 of the record tested
+    if bytes(record[:4]) != b"FILE":
+        raise Refusal(2, number, 0)
+    # 27, the used size against the record's own length; the allocated size is not asked
+    if CONSULTED.get() and used_size(record) > len(record):
+        raise Refusal(27, number, 0)
+
+
 def opening(record, number, size=None):
-    """Checks 1 and 2, which every public call on a record makes first. `size` is the lent table's record size."""
+    """Checks 1, 2 and 27, which every public call on a record makes first. `size` is the lent table's record size."""
     # RULES 3: 1, the length; the table's record size is one more thing that it has to be
     length = len(record)
     if length < 64 or length > 4096 or length % 8 != 0:
         raise Refusal(1, number, 0)
     if size is not None and length != size:
         raise Refusal(1, number, 0)
-    # 2, the first four bytes; both at place 0 of the record tested
-    if bytes(record[:4]) != b"FILE":
-        raise Refusal(2, number, 0)
+    opened_file(record, number)
 
 
 def header(record, number):
-    """The record's own fields, behind checks 1 and 2."""
+    """The record's own fields, behind checks 1, 2 and 27."""
     opening(record, number)
     # the layout of RULES 3
     return Header(
@@ -42,7 +73,7 @@ def header(record, number):
         links=number_at(record, 18, 2),
         first=number_at(record, 20, 2),
         flags=number_at(record, 22, 2) & RECORD_FLAGS,
-        used=number_at(record, 24, 4),
+        used=used_size(record),
         allocated=number_at(record, 28, 4),
     )
 
@@ -53,7 +84,7 @@ def first_place(record):
 
 
 def checked(record, number, at):
-    """Checks 3, 4 and 5 of the attribute at an offset, and its first 16 bytes (RULES 4)."""
+    """Checks 3, 4, 5 and 28 of the attribute at an offset, and its first 16 bytes (RULES 4)."""
     left = len(record) - at
     # each at the attribute's place
     if left < 16:
@@ -63,6 +94,9 @@ def checked(record, number, at):
         raise Refusal(4, number, at)
     if length > left:
         raise Refusal(5, number, at)
+    # what ends where the used size does is inside: the end marker may stand behind it
+    if CONSULTED.get() and at + length > used_size(record):
+        raise Refusal(28, number, at)
     return Attribute(
         offset=at,
         ty=number_at(record, at, 4),
@@ -77,7 +111,8 @@ def checked(record, number, at):
 
 def raw_step(record, number, at):
     """One step of the raw walk, without the opening checks. None is the end."""
-    # RULES 5: two ways to end, then 3, 4 and 5; a place past the record has fewer than 4 bytes left
+    # RULES 5: two ways to end, then 3, 4, 5 and 28. A place past the record has fewer than 4 bytes left, and one past
+    # the used size is like any other: the record's length decides how many are left
     if len(record) - at < 4:
         return None
     if number_at(record, at, 4) == MARKER:
@@ -112,7 +147,7 @@ def name(record, number, at):
 
 
 def full_of(record, number, a):
-    """The full header of an attribute that passed 3 to 5 (RULES 7)."""
+    """The full header of an attribute that passed 3 to 5 and 28 (RULES 7)."""
     at = a.offset
     if a.length < (24 if a.resident else 64):
         raise Refusal(7, number, at)
@@ -179,7 +214,7 @@ def view(record, call, number, at):
 def find(record, number, ty, instance, base, entry):
     """An attribute by type and instance, without the opening checks: (reads, attribute or the refusal)."""
     # RULES 12: 6 comes before the comparison; 18 is told at the entry in the base record; every attribute that passes
-    # 3 to 5 counts one
+    # 3 to 5 and 28 counts one
     reads, at = 0, first_place(record)
     while True:
         try:

@@ -2,7 +2,7 @@
 import struct
 
 from .answers import Refusal, TableHeader
-from .record import opening
+from .record import opened_file, opening
 
 NUMBERS = struct.Struct("<5I")
 ROW = struct.Struct("<QI")
@@ -45,7 +45,7 @@ def base_row(t):
 
 
 def open_table(record, number, table):
-    """21, 1 and 2, in this order; 1 asks for the table's record size too."""
+    """21, 1, 2 and 27, in this order; 1 asks for the table's record size too."""
     t = check_table(table)
     opening(record, number, t.size)
     return t
@@ -66,9 +66,8 @@ def found(record, number, held, wanted, place):
     # RULES 11: 17 in the base record at the place blamed
     if other is None:
         raise Refusal(17, number, place)
-    # 2 in the record that is found
-    if other[:4] != b"FILE":
-        raise Refusal(2, wanted, 0)
+    # 2 and 27 in the record that is found
+    opened_file(other, wanted)
     return other
 
 

@@ -9,6 +9,7 @@ use Rattle.fields.specs.declared.Cause.TheVariants.{NameEnd, ValueOffset, ValueE
 use Rattle.fields.specs.declared.Cause.TheVariants.{ListNotResident, EntryCut, EntryShort, EntryNameCut}
 use Rattle.fields.specs.declared.Cause.TheVariants.{NoRecord, NoAttribute, PartResident, NoRoom}
 use Rattle.fields.specs.declared.Cause.TheVariants.{BadTable, BadState, RunSize, RunCut, RunEmpty, RunRange}
+use Rattle.fields.specs.declared.Cause.TheVariants.{UsedSize, AttributeStale}
 use Rattle.command.specs.Explain.{explained}
 use Rattle.command.specs.declared.explain.TheConstants.{CAUSES}
 use Rattle.command.proofs.laws.explanations_settle.Goals as goal
@@ -40,6 +41,8 @@ found RunSize = refl
 found RunCut = refl
 found RunEmpty = refl
 found RunRange = refl
+found UsedSize = refl
+found AttributeStale = refl
 
 -- what is found passed the test
 same : (n m : ℕ) → (m == n) ≡ true → m ≡ n
