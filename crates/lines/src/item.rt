@@ -1,9 +1,10 @@
 //! The line of an item (RULES 18.3, 18.4).
-ghost use Rattle.std.specs.Prelude.{◌≡◌, Some, length};
+ghost use Rattle.std.specs.Prelude.{◌≡◌, Some, length, None};
 ghost use Rattle.fields.specs.Told.{told_as};
 ghost use Rattle.record.specs.Told.{shown_record};
 ghost use Rattle.record.specs.View.{span};
 ghost use Rattle.parts.specs.OfFile.{parts_of_file};
+ghost use Rattle.lines.specs.Ending.{says};
 ghost use Rattle.lines.specs.Listing.{name_in, value_in, first_size, parts_contents};
 ghost use Rattle.lines.specs.Raw.{raw_line, raw_runs};
 ghost use Rattle.lines.specs.InFile.{line_in, runs_in, contents_in, Reads};
@@ -191,6 +192,7 @@ pub fn raw_line<'a>(within: &Record<'a>, attribute: &Attribute) -> Raw<'a>
 pub fn item_line<'a>(file: &File<'a>, item: &Item, parts: &mut [Part]) -> Told<'a>
     ensures line { result.line ≡ line_in (length parts.old) file.now item.now }
     ensures runs { runs_rest result.runs ≡ runs_in (length parts.old) file.now item.now }
+    ensures more { says result.line ≡ None }
     ensures reads { Reads (parts_of_file file.now (length parts.old) item.now.rest) parts.old parts.new
         result.count result.reads }
 {

@@ -49,11 +49,11 @@ impl<'a> Lines<'a> {
             return Some(line);
         }
         if let Some(walk) = &mut self.walk {
-            let stepped = walk.next(parts);
-            if stepped.last {
+            let line = walk.next(parts);
+            if line.ending().is_some() {
                 self.walk = None;
             }
-            return Some(stepped.line);
+            return Some(line);
         }
         let line = self.last?;
         self.last = None;

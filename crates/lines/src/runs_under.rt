@@ -1,9 +1,10 @@
 //! The runs under a line (RULES 18.12).
-ghost use Rattle.std.specs.Prelude.{◌≡◌, [], ◌∷◌, MatchOption};
+ghost use Rattle.std.specs.Prelude.{◌≡◌, [], ◌∷◌, MatchOption, IfSome, None};
 ghost use Rattle.fields.specs.Told.{told_as};
 ghost use Rattle.record.specs.Told.{shown_record};
 ghost use Rattle.items.specs.Lookup.{lookup_of};
 ghost use Rattle.items.specs.OfFile.{of_file};
+ghost use Rattle.lines.specs.Ending.{says};
 ghost use Rattle.lines.specs.Runs.{run_lines, value_lines};
 ghost use Rattle.lines.specs.Rest.{runs_rest};
 
@@ -47,8 +48,9 @@ pub fn value_runs<'a>(looked: &Result<Record<'a>, Refusal>, contents: Contents) 
 
 /// The line of the next run, or of the refusal that ends them, if there is one.
 pub fn next_run(runs: &mut Option<Runs>) -> Option<Line>
-    ensures { MatchOption result ((runs_rest runs.old ≡ []) × (runs_rest runs.new ≡ []))
+    ensures gives { MatchOption result ((runs_rest runs.old ≡ []) × (runs_rest runs.new ≡ []))
         (λ line. runs_rest runs.old ≡ line ∷ runs_rest runs.new) }
+    ensures more { IfSome result (λ line. says line ≡ None) }
 {
     match runs.as_mut()?.next()? {
         Ok(run) => Some(Line::Run(run)),

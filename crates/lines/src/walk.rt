@@ -27,55 +27,29 @@ pub struct Walk<'a> {
     pub ghost paid: { reads + most_at_once * weight (length file.base.bytes.now) state ≤ most_in_all },
 }
 
-/// A line of a walk, and whether it is the last.
-#[derive(Clone, Copy)]
-pub struct Stepped {
-    pub line: Line,
-    pub last: bool,
-}
-
-impl Line {
-    ghost use Rattle.std.specs.Prelude.{◌≡◌, true, false};
-
-    fn last(self) -> Stepped
-        ensures { result ≡ record { line = self; last = true } }
-    {
-        Stepped {
-            line: self,
-            last: true,
-        }
-    }
-
-    fn more(self) -> Stepped
-        ensures { result ≡ record { line = self; last = false } }
-    {
-        Stepped {
-            line: self,
-            last: false,
-        }
-    }
-}
-
 impl<'a> Walk<'a> {
     ghost use Rattle.std.specs.Prelude.{◌≡◌, ◌≤◌, [], ◌∷◌, ◌++◌, take, length, Some};
+    ghost use Rattle.std.specs.Option.{is_some};
     ghost use Rattle.fields.specs.Pick.{pick};
     ghost use Rattle.lines.specs.Rest.{walk_rest, runs_rest, parts_in, run_in};
+    ghost use Rattle.lines.specs.Ending.{says};
 
     // The line of the next item, whose parts are written to the lent list, or the last one.
     #[tactic(auto, unfolding(crate::specs::Listing::lines_run, items::specs::Walked::report_of))]
-    fn step(&mut self, parts: &mut [Part]) -> Stepped
+    #[inline(always)]
+    fn step(&mut self, parts: &mut [Part]) -> Line
         ensures lines { run_in (length parts.old) self.old.file self.old.calls self.old.reads self.old.state ≡
-            result.line ∷ pick result.last [] (walk_rest parts.new (Some self.new)) }
+            result ∷ pick (is_some (says result)) [] (walk_rest parts.new (Some self.new)) }
         ensures size { length parts.new ≡ length parts.old }
     {
         let walked = self.file.next(self.state);
         let reads = self.reads + walked.reads;
         match walked.answer {
-            Ok(None) => Line::End { reads }.last(),
-            Err(r) => {
-                let cause = r.cause;
-                Line::Stopped { cause, reads }.last()
-            }
+            Ok(None) => Line::End { reads },
+            Err(r) => Line::Stopped {
+                cause: r.cause,
+                reads,
+            },
             Ok(Some(item)) => {
                 let told = item_line(&self.file, &item, parts);
                 self.state = walked.left;
@@ -84,26 +58,27 @@ impl<'a> Walk<'a> {
                 self.count = told.count;
                 self.calls -= 1;
                 self.reads = reads + told.reads;
-                told.line.more()
+                told.line
             }
         }
     }
 
     /// The next line: a run of the line before, a part of the item before with its runs to come, or what the walk
     /// gives.
-    pub fn next(&mut self, parts: &mut [Part]) -> Stepped
+    #[inline(always)]
+    pub fn next(&mut self, parts: &mut [Part]) -> Line
         ensures lines { walk_rest parts.old (Some self.old) ≡
-            result.line ∷ pick result.last [] (walk_rest parts.new (Some self.new)) }
+            result ∷ pick (is_some (says result)) [] (walk_rest parts.new (Some self.new)) }
         ensures size { length parts.new ≡ length parts.old }
     {
         if let Some(line) = next_run(&mut self.runs) {
-            return line.more();
+            return line;
         }
         if self.shown < self.count && self.shown < parts.len() {
             let part = parts[self.shown];
             self.shown += 1;
             self.runs = part_runs(&self.file, &part);
-            return Line::Part(part).more();
+            return Line::Part(part);
         }
         self.step(parts)
     }

@@ -6,7 +6,7 @@ use Rattle.runs.specs.Run.{run_of, carried_after, taken_by}
 use Rattle.runs.specs.declared.run.Run.{Run}
 use Rattle.runs.specs.declared.run.Carried.{Carried}
 
--- what is left when the first k bytes are taken, and the place of it
+-- gives the runs that are left, by their bytes, what is carried and the place
 abbrev pub Onward : Type 0
 Onward = List ℕ → Carried → ℕ → List (Outcome Run)
 

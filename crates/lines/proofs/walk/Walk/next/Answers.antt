@@ -8,7 +8,7 @@ pub returns-then-self-parts-clause-lines : goal.returns-then-self-parts-clause-l
 returns-then-self-parts-clause-lines c =
     let w = c.args.self.now in
     let ps = c.args.parts.now in
-    let e : runs_rest w.runs ≡ [] = c.in_default.ensures.0 in
-    rw (c.more-then-self-parts.ensures, e)
+    let e : runs_rest w.runs ≡ [] = c.in_default.ensures.gives.0 in
+    rw e
     (shown_next w.file ps w.shown w.count _ (runs_rest c.part_runs-self.result)
     (run_in (length ps) w.file w.calls w.reads w.state) c.if-self.true c.if-self-parts.true c.part_runs-self.ensures)
