@@ -71,6 +71,34 @@ FORMS = [
      [
          r"option_copied result ≡ of_file held_by self\.now wanted", r"if wanted == self\.base\.number",
          r"self\.base\.bytes", r"self\.table\.get\(wanted\)"]),
+    (
+        "a record is looked up by the search", "crates/table/src/lib.rt", r"pub fn get\(&self, wanted: RecordNumber\)",
+        [
+            r"\{\s+(//.*\s+)?let row = Directory::of\(self\)\.find::<Brand>\(wanted, Blank::new\(1\)\)\?;"
+            r"\s+Some\(self\.record\(row\)\)\s+\}"]),
+    (
+        "it is the search whose looks are counted", "crates/table/src/search.rt", r"fn find<L: Ledger>\(",
+        [r"\n *self\.search\(wanted, &mut Looks::<L>::none\(blank\)\)\n"]),
+    (
+        "the search halves, and sees rows by looks", "crates/table/src/search.rt", r"fn search<L: Ledger>\(",
+        [
+            r"first_row self\.now\.table\.bytes\.now", r"FewLooks self\.now\.table\.header\.count ",
+            # its whole body: no second count is begun
+            r"\{\s+let mut from: usize = 0;\s+let mut to = self\.count\(\);\s+'search: while from < to \{"
+            r"\s+let i = from \+ \(to - from\) / 2;\s+let row = self\.look\(i, looks\);"
+            r"\s+match row\.number\.cmp\(&wanted\) \{[^{}]*\}\s+\}\s+None\s+\}"]),
+    (
+        "a directory shows no table", "crates/table/src/look.rt", r"struct Directory<'a>",
+        [r"\{\n    table: Table<'a>,\n\}"]),
+    (
+        "a look counts one", "crates/table/src/look.rt", r"fn look<L: Ledger>\(",
+        [r"looks\.new ≡ looks\.old \+ 1", r"looks\.add_one\(\);", r"self\.table\.row\(i\)"]),
+    (
+        "the count has no bytes", "crates/table/src/look.rt",
+        r"const _: \(\) = prove!\(size_of::<Looks<Brand>>\(\) == 0\);", None),
+    (
+        "one is added in the ledger", "crates/table/src/look.rt", r"fn add_one\(&mut self\)",
+        [r"self\.book\.add\(&mut self\.share, 1\);"]),
     ("a name in 510 bytes", "crates/list/src/lib.rt", r"pub const MOST_NAME: usize = 510;", None),
     ("its first bytes are filled, the rest is proved zero", "crates/list/src/lib.rt", r"fn name_of\(",
      [r"result ≡ name_of rest\.now n", r"\[0; MOST_NAME\]", r"name\[0\.\.n\]\.copy_from_slice\("]),

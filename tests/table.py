@@ -416,6 +416,20 @@ def test_lookups(test):
             test.put_lookup(record(64), whole, wanted, number=41, place=place)
 
 
+def test_lookups_among_few_and_many_rows(test):
+    """Each row of a few, and at the powers of 2 of as many as there may be, and the numbers beside each."""
+    lent, few, step, records = record(64), 34, 28, 500
+    powers = {2 ** k + d for k in range(13) for d in (-2, -1, 0, 1)}
+    for count in (*range(few), 4095, 4096):
+        start = NUMBERS_BYTES + ROW_BYTES * count
+        # records overlap, but for what a lookup tests of them
+        rows = [(3 * i + 5, start + step * (i % records)) for i in range(count)]
+        t = table(rows, start + step * min(count, records) + 64)
+        for i in range(count) if count < few else sorted({i for i in powers if 0 <= i < count} | {count - 1}):
+            for wanted in (3 * i + 4, 3 * i + 5, 3 * i + 6):
+                test.put_lookup(lent, t, wanted, number=1, place=i)
+
+
 NEEDED = {
     "list::header": (14, 15, 16), "list::step": (14, 15, 16), "Table::check": (21,), "File::of_bytes": (21, 1, 2, 27),
     "File::lookup": (21, 1, 2, 27, 17, "2 of the record looked up", "27 of the record looked up"),

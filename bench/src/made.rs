@@ -3,6 +3,9 @@
 
 const DATA: u8 = 0x80;
 
+/// The number of a table's first row; the others follow it one by one.
+pub const FIRST_NUMBER: u64 = 40;
+
 /// An empty record: the first attribute is to stand at 56, and all of the record is used.
 fn record(size: usize) -> Vec<u8> {
     let mut r = vec![0u8; size];
@@ -75,13 +78,13 @@ fn listing(size: usize, of: impl Fn(usize) -> Vec<u8>) -> Vec<u8> {
     filled(size, &[resident(0x20, 0, &list)])
 }
 
-/// A table of these records, numbered from 40 on; the first is the base. Rows past the last record have the last one's
-/// bytes.
+/// A table of these records, numbered from the first number on; the first is the base. Rows past the last record have
+/// the last one's bytes.
 fn table(size: usize, records: &[Vec<u8>], rows: usize) -> Vec<u8> {
     let start = 20 + 12 * rows;
     let mut t = [rows, size, 20, start, 0].iter().flat_map(|n| (*n as u32).to_le_bytes()).collect::<Vec<_>>();
     for i in 0..rows {
-        t.extend((40 + i as u64).to_le_bytes());
+        t.extend((FIRST_NUMBER + i as u64).to_le_bytes());
         t.extend(((start + size * i.min(records.len() - 1)) as u32).to_le_bytes());
     }
     t.extend(records.concat());

@@ -4,6 +4,7 @@
 //!
 //! With --once each table is listed once by both, for an instruction counter; with --ours by ours alone, in 20,000
 //! passes, for a profiler. Neither times anything.
+mod lookups;
 mod made;
 mod ours;
 mod theirs;
@@ -303,4 +304,5 @@ fn main() {
     report_runs(&cases, &times, &mut out);
     report_alone(&alone, &mut out);
     report_made(&mut out, &mut room);
+    lookups::report();
 }

@@ -1,14 +1,17 @@
 -- A row sought by halves: what one look says of the rows before and behind it, in a table that passed its check.
-use Rattle.std.specs.Prelude.{ℕ, ◌+◌, ◌*◌, ◌<◌, ◌≤◌, ◌≡◌, List, length, None}
-use Rattle.std.proofs.Common.{arith, subst, ⊎_elim}
+use Rattle.std.specs.Prelude.{ℕ, ◌+◌, ◌*◌, ◌<◌, ◌≤◌, ◌≡◌, List, length, Some, None}
+use Rattle.std.proofs.Common.{arith, sym, ap, ◌∙◌, subst, ⊎_elim}
 use Rattle.std.proofs.Math.Nat.{eq-or-lt_of_le}
 use Rattle.fields.specs.Answer.{gives}
 use Rattle.fields.specs.declared.RecordNumber.{RecordNumber}
 use Rattle.table.specs.declared.check.TableHeader.{TableHeader}
 use Rattle.table.specs.Layout.{row_at}
 use Rattle.table.specs.Check.{table_of}
-use Rattle.table.specs.Row.{IsRow}
+use Rattle.table.specs.Row.{first_row}
+use Rattle.table.specs.declared.check.Row.{Row}
 use Rattle.table.proofs.Sound.{sound}
+use Rattle.table.proofs.InTurn.{first_found}
+use Rattle.table.proofs.Looks.{before_looks, look_on, few_looks}
 
 -- the rows below row n have numbers under w
 pub record Before (t : List ℕ) (h : TableHeader) (w : RecordNumber) (n : ℕ) : Type 0 where
@@ -38,10 +41,16 @@ module _ (t : List ℕ) (h : TableHeader) (w : RecordNumber) where
   pub behind_row : (i : ℕ) → table_of t ≡ gives h → w.0 < (row_at t h i).number.0 → Behind t h w i
   behind_row i e m = record { over = λ j k l. omega (arith, rising t h i j e k l) }
 
-  pub nowhere : (a b : ℕ) → Before t h w a → Behind t h w b → b ≤ a → IsRow t h w None
-  nowhere a b p q l = λ j m e.
+  pub nowhere : (a b : ℕ) → table_of t ≡ gives h → Before t h w a → Behind t h w b → b ≤ a → None ≡ first_row t h w
+  nowhere a b e p q l = sym (first_found (sound t h e) w None λ j m u.
       let out : j < a → ⊥ = λ x. omega (arith, p.under j x) in
-      omega (arith, q.over j (omega arith) m)
+      omega (arith, q.over j (omega arith) m))
+
+  pub here : (i : ℕ) (r : Row) → table_of t ≡ gives h → i < h.count → r ≡ row_at t h i → r.number.0 ≡ w.0
+      → Some r ≡ first_row t h w
+  here i r e l u v =
+      ap Some u
+      ∙ sym (first_found (sound t h e) w (Some i) (l, sym (ap (λ (x : Row). x.number.0) u) ∙ v))
 
 -- the directory and the records lie inside the table
 module _ (t : List ℕ) (h : TableHeader) where
@@ -51,6 +60,6 @@ module _ (t : List ℕ) (h : TableHeader) where
   pub record_ends : (i : ℕ) → table_of t ≡ gives h → i < h.count → (row_at t h i).offset + h.size ≤ length t
   record_ends i e l = (sound t h e).stops i l
 
-pub ruleset halves = (before_none, behind_none, before_row, behind_row, nowhere, directory_ends)
+pub ruleset halves = (before_none, behind_none, before_row, behind_row, nowhere, here, before_looks, look_on, few_looks)
 
 pub ruleset bounds = (directory_ends, record_ends)

@@ -1,6 +1,7 @@
 -- RULES 10: what a table that passed its check is, and what its calls leave open; src/laws.rt has the functions
 -- whose contracts these are.
-use Rattle.std.specs.Prelude.{ℕ, true, ◌+◌, ◌*◌, ◌<◌, ◌≤◌, ◌≡◌, List, ◌++◌, length, Option, Some, None}
+use Rattle.std.specs.Prelude.{ℕ, true, ◌+◌, ◌*◌, ◌^◌, ◌<◌, ◌≤◌, ◌≡◌, List, ◌++◌, length}
+use Rattle.std.specs.Prelude.{Option, Some, None, option_map}
 use Rattle.std.specs.Prelude.{Result, Ok, Err, IfOk}
 use Rattle.fields.specs.Answer.{Outcome, gives, refuses}
 use Rattle.fields.specs.Told.{told_as}
@@ -8,11 +9,11 @@ use Rattle.fields.specs.Length.{good_length}
 use Rattle.fields.specs.declared.RecordNumber.{RecordNumber}
 use Rattle.fields.specs.declared.Refusal.{Refusal}
 use Rattle.table.specs.Layout.{row_size, row_at, numbers_at}
-use Rattle.table.specs.Check.{malformed, number_end, table_of}
+use Rattle.table.specs.Check.{malformed, most_rows, number_end, table_of}
 use Rattle.table.specs.Fault.{fault_of}
 use Rattle.table.specs.Reach.{reach_of}
-use Rattle.table.specs.Held.{held_of, held_at, record_at, record_of, base_row, base_of}
-use Rattle.table.specs.Row.{IsRow}
+use Rattle.table.specs.Held.{held_of, held_at, record_told, record_at, record_of, base_row, base_of}
+use Rattle.table.specs.Row.{IsRow, first_row, FewLooks}
 use Rattle.table.specs.declared.check.TableHeader.{TableHeader}
 use Rattle.table.specs.declared.faults.Fault.{Fault}
 use Rattle.table.specs.declared.faults.Fault.TheVariants.{HeaderCut, RowCount, RecordSize, DirectoryBegin}
@@ -75,6 +76,29 @@ SameTable (Err x) (Ok y) = ⊥
 
 abbrev pub ChecksSettle : Type 0
 ChecksSettle = (t : List ℕ) (r s : Result Table Refusal) → Checks t r → Checks t s → SameTable r s
+
+-- whatever the order of a search, the row that it finds is the first one with the number
+abbrev pub FirstIsFound : Type 0
+FirstIsFound = OfTables λ t h. (n : RecordNumber) (o : Option ℕ)
+    → IsRow t h n o → first_row t h n ≡ option_map (row_at t h) o
+
+-- the record that a table has under a number is the one that the first row with the number tells
+abbrev pub FirstIsTold : Type 0
+FirstIsTold = OfTables λ t h. (n : RecordNumber) → record_of t n ≡ option_map (record_told t h) (first_row t h n)
+
+-- few looks, for a table that has a row: no more than log2 of its rows, rounded down, and 1. That is the j with 2^j at
+-- most the rows, and 2^(j + 1) above them.
+abbrev pub FewByLog : Type 0
+FewByLog = (n j k : ℕ) → 2 ^ j ≤ n → n < 2 ^ (j + 1)
+    → (FewLooks n k → k ≤ j + 1) × (k ≤ j + 1 → FewLooks n k)
+
+-- in a table of no rows none is looked at
+abbrev pub FewOfNone : Type 0
+FewOfNone = (k : ℕ) → FewLooks 0 k → k ≡ 0
+
+-- 13 in the largest table, and 12 if it has a row less
+abbrev pub FewOfMost : Type 0
+FewOfMost = FewLooks most_rows 13 × (FewLooks most_rows 14 → ⊥) × FewLooks 4095 12 × (FewLooks 4095 13 → ⊥)
 
 -- any two ways to find a row find the same
 abbrev pub RowsSettle : Type 0

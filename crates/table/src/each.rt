@@ -27,6 +27,7 @@ impl<'a> Iterator for EachRow<'a> {
             return None;
         }
         self.at = i + 1;
-        Some((self.table.row(i), self.table.record(i)))
+        let row = self.table.row(i);
+        Some((row, self.table.record(row)))
     }
 }

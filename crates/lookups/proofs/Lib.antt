@@ -1,0 +1,2 @@
+-- What the proofs of the lookups share.
+pub mod InTurn

@@ -1,0 +1,2 @@
+-- What the benchmark's lookups count.
+pub mod Wanted
