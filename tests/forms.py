@@ -55,17 +55,17 @@ FORMS = [
     ("a part names both", "crates/parts/src/lib.rt", r"pub struct Part \{", [r"file: RecordNumber,", r"lowest: Vcn,"]),
     ("an entry loop inside the raw loop, left by label", "crates/items/src/walk.rt", r"fn next_inside\(",
      [
-         r"'raw: loop \{", r"'entries: while let Some\(\w+\) = at\.list \{", r"list::header\(", r"break 'raw Err\(",
+         r"'raw: loop \{", r"'entries: while let Some\(\w+\) = at\.list \{", r"list::named\(", r"break 'raw Err\(",
          r"continue 'entries;",
       r"break 'raw Ok\(Some\(Item \{", r"self\.base\.step\(at\.raw\)", r"Ok\(None\) => break 'raw Ok\(None\)"]),
     ("the list step is handed the rest of the list", "crates/list/src/lib.rt", r"pub fn header\(rest: &\[u8\],",
      [r"entry_of rest\.now ", r"let left = rest\.len\(\);"]),
     (
         "the walk hands it", "crates/items/src/walk.rt", r"fn next_inside\(",
-        [r"&self\.base\.bytes\[list\.from\.\.list\.to\]", r"list::header\(rest,"]),
+        [r"&self\.base\.bytes\[list\.from\.\.list\.to\]", r"list::named\(rest,"]),
     (
         "the parts hand it", "crates/parts/src/lib.rt", r"fn fill_inside\(",
-        [r"&file\.base\.bytes\[at\.from\.\.at\.to\]", r"list::header\(rest,"]),
+        [r"&file\.base\.bytes\[at\.from\.\.at\.to\]", r"list::named\(rest,"]),
     ("a lookup borrows a slice from one of two lent ones, its view stated", "crates/items/src/lib.rt",
      r"fn held\(&self, wanted: RecordNumber\) -> Option<&'a \[u8\]>",
      [
@@ -100,9 +100,21 @@ FORMS = [
         "one is added in the ledger", "crates/table/src/look.rt", r"fn add_one\(&mut self\)",
         [r"self\.book\.add\(&mut self\.share, 1\);"]),
     ("a name in 510 bytes", "crates/list/src/lib.rt", r"pub const MOST_NAME: usize = 510;", None),
-    ("its first bytes are filled, the rest is proved zero", "crates/list/src/lib.rt", r"fn name_of\(",
-     [r"result ≡ name_of rest\.now n", r"\[0; MOST_NAME\]", r"name\[0\.\.n\]\.copy_from_slice\("]),
-    ("the rest is zeros", "crates/list/specs/Named.antt", r"\nname_of rest n = .*replicate \(most_name - n\) 0", None),
+    (
+        "its first bytes are filled, the rest is proved zero", "crates/list/src/named_entry.rt", r"fn padded\(&self\)",
+        [r"result ≡ padded self\.now\.name\.now", r"\[0; MOST_NAME\]", r"\]\.copy_from_slice\(self\.name\)"]),
+    (
+        "the rest is zeros", "crates/list/specs/Named.antt",
+        r"\npadded name = name \+\+ replicate \(most_name - length name\) 0", None),
+    (
+        "a key says what continues its stream", "crates/items/src/key.rt",
+        r"pub fn is_continued_by\(&self, e: &NamedEntry\)",
+        [r"result ≡ continues self\.now ", r"e\.entry\.ty == self\.ty", r"e\.entry\.lowest != Vcn\(0\)",
+         r"e\.name == &self\.name\["]),
+    (
+        "the walk asks it", "crates/items/src/walk.rt", r"fn skips\(&self, e: &NamedEntry\)",
+        [r"key\.is_continued_by\(e\)"]),
+    ("the parts ask it", "crates/parts/src/lib.rt", r"fn fill_inside\(", [r"key\.is_continued_by\(&named\)"]),
     ("FILE is a fixed byte string", "crates/record/src/lib.rt", r"const SIGNATURE: &\[u8; 4\] = b\"FILE\";", None),
     (
         "a record's first bytes are compared with it", "crates/record/src/lib.rt", r"pub fn is_file\(",

@@ -10,7 +10,7 @@ from lib import building
 from lib.building import END, FILE, entry, head, list_of, record, table
 from lib.damaging import damaged, with_other_used
 from lib.random_runs import in_table
-from lib.random_tables import OTHER_USED, chained_table, hurt_outside, large_table, random_table
+from lib.random_tables import OTHER_USED, Streams, chained_table, hurt_outside, large_table, random_table
 
 BASE, OTHER, THIRD, FOURTH = 40, 41, 42, 43
 MOST = 65536
@@ -75,6 +75,11 @@ def of(*attributes, size=256, others=(), **more):
 
 def to(file=OTHER, instance=1, ty=0x80, **more):
     return entry(ty, file, instance, **more)
+
+
+def later(file=None, instance=1, ty=0x80, lowest=1, **more):
+    """An entry that continues those of no name; it names the third record unless told otherwise."""
+    return to(THIRD if file is None else file, instance, ty, lowest=lowest, **more)
 
 
 WHOLE = struct.pack("<5IQI", 1, 128, 20, 32, 0, 40, 32) + b"".join((
@@ -246,7 +251,7 @@ def used_sizes_looked_up():
         "an item in front of a stale tail", "end reads 8", (HEADER, *found, behind), whole=True)
     # a base record's own part that is stale: the walk passes its entry over
     yield Case(
-        "used-base-part", of(list_of(to(), to(BASE)), plain(5), stream(), used=160, others=[[stream()]]),
+        "used-base-part", of(list_of(to(), later(BASE)), plain(5), stream(), used=160, others=[[stream()]]),
         "the base record's own part is stale, in the parts and in the walk", "stopped 28 reads 10",
         (HEADER, LINE + "1 refused 28", GOOD, "attr 40 136 16 24 5 name 0 0 value resident 160 0"), whole=True)
 
@@ -344,14 +349,20 @@ def walks_along_lists():
         "type and instance agree in no attribute", "stopped 18 reads 6", LOOKUP)
     yield Case("list-empty", of(FRONT, list_of(), plain(2)), "an empty list", "end reads 3", LOOKUP)
     yield Case(
-        "list-two", of(list_of(to()), list_of(to(THIRD)), plain(2), others=[[stream()], [stream()]]),
+        "list-two", of(list_of(to()), list_of(later()), plain(2), others=[[stream()], [stream()]]),
         "the skip key outlives a list: the second entry is passed over", "end reads 8",
         (
             "attr 41 56 128 64 1 name 0 0 value parts 1 size 4000", "part 41 56 0 120 0",
             "attr 40 168 16 24 2 name 0 0 value resident 192 0"))
     yield Case(
+        "list-two-anew", of(list_of(to()), list_of(to(THIRD)), plain(2), others=[[stream()], [stream()]]),
+        "the second list's entry is from VCN 0 on: an item of its own", "end reads 11",
+        (
+            HEADER, LINE + "1 size 4000", GOOD, "attr 42 56 128 64 1 name 0 0 value parts 1 size 4000",
+            "part 42 56 0 120 0", "attr 40 168 16 24 2 name 0 0 value resident 192 0"), whole=True)
+    yield Case(
         "list-key-cleared",
-        of(list_of(to(), to(instance=2), to(THIRD)), others=[[stream(), plain(2, ty=0x80)], [stream()]]),
+        of(list_of(to(), to(instance=2), later()), others=[[stream(), plain(2, ty=0x80)], [stream()]]),
         "a resident item between: the key is cleared, and the stream is an item again", "end reads 13",
         ("attr 41 120 128 24 2 name 0 0 value resident 144 0", "attr 42 56 128 64 1 name 0 0 value parts 1 size 4000"))
 
@@ -432,7 +443,7 @@ def looked_up():
 # reads: the list 1, entry and attribute 2; parts: entry and attribute 2, then what is said below; then the list's other
 # entries are passed over, 1 each, and the attribute behind it is 1
 BEHIND = ("attr 40 136 16 24 5 name 0 0 value resident 160 0",)
-TWO = [to(), to(THIRD)]
+TWO = [to(), later()]
 
 # run bytes: a run of 5 clusters from 10 on; and how runs end that are refused, by its number
 RUN = "11 05 0A"
@@ -510,10 +521,10 @@ def runs_of_parts():
     # the record of 42 is read nowhere
     yield ran(
         "runs-parts-again", "two parts of one attribute: its runs twice", 9, RUN, [plain()], both,
-        "part 41 56 0 120 3", "run 10 5", "part 41 56 0 120 3", "run 10 5", list_of_two=[to(), to()])
+        "part 41 56 0 120 3", "run 10 5", "part 41 56 0 120 3", "run 10 5", list_of_two=[to(), later(OTHER)])
     yield Case(
         "runs-base", of(
-            list_of(to(), to(BASE)), running("11 06 07"), others=[[running("01 04")]]),
+            list_of(to(), later(BASE)), running("11 06 07"), others=[[running("01 04")]]),
         "a part in the base record has its runs there", "end reads 10",
         (
             HEADER, "attr 41 56 128 66 1 name 0 0 value parts 2 size 4000", "part 41 56 0 120 2", "hole 4",
@@ -541,47 +552,103 @@ def parts():
         (LINE + "1 size 4000", GOOD))
     second = [plain(2, ty=0x80), stream(lowest=5, size=2)]
     yield Case(
-        "parts-2", of(list_of(to(), to(THIRD), to(THIRD, 2)), others=[[stream(size=1)], second]),
-        "the size is the first part's; the third entry has another instance", "end reads 12",
+        "parts-2", of(list_of(to(), later(lowest=5), to(THIRD, 2)), others=[[stream(size=1)], second]),
+        "the size is the first part's; the third entry is from VCN 0 on", "end reads 12",
         (LINE + "2 size 1", GOOD, "part 42 80 5 144 0", "attr 42 56 128 24 2 name 0 0 value resident 80 0"))
     yield Case(
-        "parts-type", of(list_of(to(), to(OTHER, ty=0x90)), others=[[stream(), stream(ty=0x90)]]),
-        "the instance agrees and the type is another known one", "end reads 12",
+        "parts-type", of(list_of(to(), later(OTHER, ty=0x90)), others=[[stream(), stream(ty=0x90)]]),
+        "the name agrees and the type is another known one", "end reads 12",
         (LINE + "1 size 4000", GOOD, "attr 41 120 144 64 1 name 0 0 value parts 1 size 4000", "part 41 120 0 184 0"))
     yield Case(
-        "parts-unknown", of(list_of(to(), to(THIRD, 2, ty=0x81)), others=[[stream()]]),
-        "an unknown type with another instance ends the parts; the walk stops", "stopped 6 reads 7",
-        (LINE + "1 size 4000", GOOD))
+        "parts-unknown", of(list_of(to(), later(ty=0x81)), others=[[stream()]]),
+        "an unknown type ends the parts, and stops the walk", "stopped 6 reads 7",
+        (HEADER, LINE + "1 size 4000", GOOD), whole=True)
 
 
 def parts_behind():
     """Which entries behind the first are parts."""
     yield Case(
-        "parts-base", of(list_of(to(), to(BASE), to(THIRD)), stream(lowest=3), others=[[stream()], [stream(lowest=6)]]),
+        "parts-base", of(
+            list_of(to(), later(BASE, lowest=3), later(lowest=6)), stream(lowest=3),
+            others=[[stream()], [stream(lowest=6)]]),
         "an entry of the base record is passed over by the walk and counts as a part", "end reads 13",
         (
             LINE + "3 size 4000", GOOD, "part 40 160 3 224 0", "part 42 56 6 120 0",
             "attr 40 160 128 64 1 name 0 0 value runs 224 0 size 4000"))
     yield Case(
-        "parts-stranger", of(list_of(to(), to(BASE, 3), to(THIRD)), others=[[stream()], [stream()]]),
-        "behind an entry of the base record that does not agree a further part is lost", "end reads 8",
-        (LINE + "1 size 4000", GOOD))
+        "parts-stranger", of(list_of(to(), to(BASE, 3), later()), others=[[stream()], [stream()]]),
+        "behind an entry of the base record that does not continue the stream a further part is lost", "end reads 8",
+        (HEADER, LINE + "1 size 4000", GOOD), whole=True)
     yield Case(
-        "parts-again", of(list_of(to(), to(OTHER, 2), to(THIRD)), others=[[stream(), stream(2)], [stream(lowest=4)]]),
+        "parts-stranger-type", of(list_of(to(), later(BASE, ty=0x10), later()), others=[[stream()], [stream()]]),
+        "the same behind an entry of the base record that has another type", "end reads 8",
+        (HEADER, LINE + "1 size 4000", GOOD), whole=True)
+    yield Case(
+        "parts-again", of(
+            list_of(to(), to(OTHER, 2, units=1), later(lowest=4)),
+            others=[[stream(), stream(2)], [stream(lowest=4)]]),
         "behind another item the stream is an item again", "end reads 17",
         (
             LINE + "1 size 4000", GOOD, "attr 41 120 128 64 2 name 0 0 value parts 1 size 4000", "part 41 120 0 184 0",
             "attr 42 56 128 64 1 name 0 0 value parts 1 size 4000", "part 42 56 4 120 0"))
     yield Case(
-        "parts-names", of(list_of(to(units=1), to(THIRD, units=2)), plain(5), others=[[stream()], [stream(lowest=4)]]),
-        "names are not compared", "end reads 9", (LINE + "2 size 4000", GOOD, "part 42 56 4 120 0"))
+        "parts-instance", of(list_of(to(), later(instance=2)), plain(5), others=[[stream()], [stream(2, lowest=4)]]),
+        "one stream, though the second part has another instance", "end reads 9",
+        (
+            HEADER, LINE + "2 size 4000", GOOD, "part 42 56 4 120 0",
+            "attr 40 136 16 24 5 name 0 0 value resident 160 0"), whole=True)
     yield Case(
         "parts-entry-longer",
-        of(list_of(to(), to(THIRD, length=64), cut=8), plain(5), others=[[stream()], [stream()]], size=512),
+        of(list_of(to(), later(length=64), cut=8), plain(5), others=[[stream()], [stream()]], size=512),
         "an entry longer than what is left ends the parts and the list", "end reads 6", (LINE + "1 size 4000", GOOD))
     yield Case(
         "parts-lowest", of(list_of(to(lowest=77)), others=[[stream(lowest=78)]]),
         "the VCN is the attribute's own, not the entry's", "end reads 5", ("part 41 56 78 120 0",))
+
+
+def named(name, *lows):
+    """Two entries of these names, from these VCNs on: they name 41 and 42."""
+    names, files = name.split("/"), (OTHER, THIRD)
+    texts = [text.encode("utf-16-le") for text in names]
+    return list_of(*(
+        to(file, units=len(text) // 2, name=text, lowest=lowest) for file, text, lowest in zip(files, texts, lows)))
+
+
+# two streams: an item with one part of each, the second one's from VCN 4 on
+APART = ("attr 42 56 128 64 1 name 0 0 value parts 1 size 4000", "part 42 56 4 120 0")
+
+
+def joined():
+    """What makes two entries one stream, by their names and the second one's VCN."""
+    for name, names, lows, one_stream in (
+        ("parts-named", "ab/ab", (0, 4), True), ("parts-named-0", "ab/ab", (0, 0), False),
+        ("parts-anew", "/", (0, 0), False), ("parts-vcn-1", "/", (0, 1), True),
+        ("parts-vcn-most", "/", (FIELD_MOST, FIELD_MOST), True), ("parts-longer", "ab/abc", (0, 4), False),
+        ("parts-shorter", "ab/a", (0, 4), False), ("parts-unnamed", "ab/", (0, 4), False),
+        ("parts-named-behind", "/ab", (0, 4), False), ("parts-byte", "ab/aB", (0, 4), False),
+        ("parts-zero", "a/a\0", (0, 4), False), ("parts-name-255", 255 * "x" + "/" + 255 * "x", (0, 4), True),
+        ("parts-name-255-last", 255 * "x" + "/" + 254 * "x" + "y", (0, 4), False),
+        ("parts-name-254", 255 * "x" + "/" + 254 * "x", (0, 4), False),
+    ):
+        held = named(names, *lows)
+        behind = 56 + len(held)
+        lines = ("2 size 4000", GOOD, APART[1]) if one_stream else ("1 size 4000", GOOD, *APART)
+        # the list, an entry and an attribute; the parts of one item with two, or of two with one, the first of which
+        # the second entry ends; the other entry passed over, or with its attribute; the attribute behind the list
+        reads = 3 + (4 if one_stream else 2 + 1 + 2) + (1 if one_stream else 2) + 1
+        yield Case(
+            name, of(held, AFTER, others=[[stream()], [stream(lowest=4)]], size=2048),
+            "two entries of the names %s and %s, from VCN %d and %d on" % (
+                *(shown(text) for text in names.split("/")), *lows),
+            "end reads %d" % reads,
+            (
+                "record 40 size 2048", LINE + lines[0], *lines[1:],
+                "attr 40 %d 16 24 5 name 0 0 value resident %d 0" % (behind, behind + 24)), whole=True)
+
+
+def shown(name):
+    """A name for people."""
+    return "of %d units" % len(name) if len(name) > 9 else '"%s"' % name.replace("\0", "\\0")
 
 
 def parts_refused():
@@ -612,9 +679,6 @@ def parts_refused():
     yield refused(4, "4", "4 in the second part's record", "end reads 8", TWO, [bare(0x80, 15, 1)], more=BEHIND)
     yield refused(5, "5", "5 in the second part's record", "end reads 8", TWO, [bare(0x80, 201, 1)], more=BEHIND)
     yield refused(
-        6, "6-entry", "an agreeing instance with an unknown type; the walk stops there too", "stopped 6 reads 7",
-        [to(), to(THIRD, ty=0x81)], [stream()])
-    yield refused(
         6, "6", "an attribute of unknown type in the second part's record", "end reads 9", TWO,
         [plain(ty=0x81), stream()], more=BEHIND)
     yield refused(7, "7", "the second part's header is short", "end reads 9", TWO, [stream(1, 63)], more=BEHIND)
@@ -628,9 +692,9 @@ def parts_refused_by_entries():
     yield refused(14, "14", "25 bytes left of the list", "stopped 14 reads 5", TWO, [stream()], cut=1)
     yield refused(
         15, "15", "entry length 27 with one name unit", "stopped 15 reads 5",
-        [to(), to(THIRD, length=27, units=1, name=b"n")], [stream()])
+        [to(), later(length=27, units=1, name=b"n")], [stream()])
     yield refused(
-        16, "16", "the second entry's name is cut", "stopped 16 reads 5", [to(), to(THIRD, units=1)], [stream()], cut=2)
+        16, "16", "the second entry's name is cut", "stopped 16 reads 5", [to(), later(units=1)], [stream()], cut=2)
     yield refused(17, "17", "the table lacks the second part's record", "end reads 8", TWO, more=BEHIND)
     yield refused(
         18, "18", "the second part's record has no such attribute", "end reads 9", TWO, [stream(2)], more=BEHIND)
@@ -638,10 +702,15 @@ def parts_refused_by_entries():
     yield refused(19, "19-short", "19 before 7", "end reads 9", TWO, [plain(1, 16, ty=0x80)], more=BEHIND)
     yield refused(7, "7-before-12", "7 before 12", "end reads 9", TWO, [stream(1, 63, 0xFFFF)], more=BEHIND)
     yield refused(
-        19, "19", "the third part is resident; the two before it are listed", "end reads 12", [to(), to(), to(THIRD)],
+        18, "18-instance", "a stream's second part is looked up by its own instance", "end reads 9",
+        [to(), later(instance=2)], [stream()], more=BEHIND)
+    yield refused(
+        19, "19", "the third part is resident; the two before it are listed", "end reads 12",
+        [to(), later(OTHER), later()],
         [plain(1, ty=0x80)], count=2, more=("attr 40 160 16 24 5 name 0 0 value resident 184 0",))
     yield refused(
-        17, "17", "the table lacks the third part's record", "end reads 11", [to(), to(), to(FOURTH)], count=2)
+        17, "17", "the table lacks the third part's record", "end reads 11", [to(), later(OTHER), later(FOURTH)],
+        count=2)
 
 
 # as many entries as a list of a record of 4,096 bytes can have (tests/cases/README.md), and the type of the first
@@ -688,7 +757,7 @@ def full_of_holes(k):
 
 def most_lines():
     """(table, how many lines its listing has): the most that we found for a base record of 4,096 bytes. As many entries
-    as fit, each an item with one part, since the next one leads to another, and each part with as many runs as fit."""
+    as fit, each an item with one part, since the next one is from VCN 0 on, and each part with as many runs as fit."""
     held = [full_of_holes(k) for k in (1, 2)]
     entries = [to(OTHER + k % 2, held[k % 2][1], OVER) for k in range(MOST_ENTRIES)]
     records = {OTHER + k: text for k, (text, _) in enumerate(held)}
@@ -699,7 +768,7 @@ def most_lines():
 def most_parts():
     """The most parts of an item, and the most items with a part."""
     # 80 + 154 × 26 = 4,084: as many entries as fit behind an ordinary header. Entries of 41 and of 42 in turn.
-    entries = [to(OTHER + k % 2) for k in range(154)]
+    entries = [later(OTHER + k % 2) for k in range(154)]
     others = [[stream(lowest=1)], [plain(), stream(lowest=2)]]
     # the list 1; the walk 1 + 1, and 153 passed over; 154 entries, 77 with one attribute and 77 with two
     yield Case(
@@ -708,14 +777,14 @@ def most_parts():
         ("attr 41 56 128 64 1 name 0 0 value parts 154 size 4000", "part 41 56 1 120 0", "part 42 80 2 144 0"))
     others = [[stream(lowest=1, ty=OVER)], [plain(), stream(lowest=2, ty=OVER)]]
     others = {OTHER + k: record(4096, *held) for k, held in enumerate(others)}
-    entries = [to(OTHER + k % 2, ty=OVER) for k in range(MOST_ENTRIES)]
+    entries = [later(OTHER + k % 2, ty=OVER) for k in range(MOST_ENTRIES)]
     yield Case(
         "parts-156", table({BASE: longest_list(entries), **others}), "as many parts as fit at all", "end reads 548",
         (
             "record 40 size 4096", "attr 41 56 256 64 1 name 0 0 value parts 156 size 4000", "part 41 56 1 120 0",
             "part 42 80 2 144 0"))
-    # Instances in turn, so that each entry is an item with one part, which the next one ends: more text than goes to
-    # one write. The list 1; the walk's 154 entries, and as many parts, 77 each with one attribute and 77 with two; 153
+    # Each entry is from VCN 0 on, and so an item with one part, which the next one ends: more text than goes to one
+    # write. The list 1; the walk's 154 entries, and as many parts, 77 each with one attribute and 77 with two; 153
     # that end parts.
     two = [[stream(1, lowest=FIELD_MOST, size=FIELD_MOST), stream(2, lowest=FIELD_MOST, size=FIELD_MOST)]]
     yield Case(
@@ -736,7 +805,7 @@ def longest_lines():
         NUMBER_MOST - 2: [
             bare(0x10, 1000), bytes(984), stream(65535, 1100, 100, FIELD_MOST, FIELD_MOST, 0xFFFFFFFE, 255, 590),
             stream(65535, 1100, 100, FIELD_MOST, FIELD_MOST, 0xFFFFFFFE, 255, 1100),
-            list_of(to(NUMBER_MOST - 1, 65535, 0x100), to(NUMBER_MOST, 65535, 0x100))],
+            list_of(to(NUMBER_MOST - 1, 65535, 0x100), later(NUMBER_MOST, 65535, 0x100))],
         NUMBER_MOST - 1: [
             bare(0x10, 1000), bytes(984), stream(65535, 2100, 1000, FIELD_MOST, FIELD_MOST, 0x100, 255, 1590)],
         NUMBER_MOST: [bare(0x10, 1000), bytes(984), stream(65535, 2100, 1000, FIELD_MOST - 1, 5, 0x100, 255, 1590)],
@@ -762,7 +831,7 @@ def most_records():
     # 248 attributes of 16 bytes in front of the one sought, and again in each part
     lot = record(4096, *[bare(0x10, 16)] * 248, stream())
     yield Case(
-        "reads", table({BASE: record(4096, list_of(*[to()] * 154)), OTHER: lot}),
+        "reads", table({BASE: record(4096, list_of(*[later(OTHER)] * 154)), OTHER: lot}),
         "parts that are each found behind 248 attributes", "end reads %d" % (1 + 1 + 249 + 154 * 250 + 153),
         ("attr 41 4024 128 64 1 name 0 0 value parts 154 size 4000",))
 
@@ -793,7 +862,7 @@ def reads_most(size, entries, spare):
     A list lies over its own attribute from byte 0 on, so that its entry is the attribute: the entry's type is 0x20, its
     lowest VCN the attribute's first fields, and its record number the value's length, 26, and offset, 0. An entry of 27
     bytes names record 27: so many are spare. Attributes are as short as they can be, so that the parts refuse the one
-    found by 7, behind the search. Entries of two instances in turn, or the skip key would pass over them.
+    found by 7, behind the search. Each entry is from VCN 0 on, so that the skip key passes none over.
 
     In each record the first attribute stands at 12, its header over the record's own: its form is the first attribute
     offset, and its flags are the used size. A list can't lie there: its value's offset would be one of the two.
@@ -825,7 +894,7 @@ def records_64():
         # 56 attributes of 16 bytes, then the stream, which ends at 1,016; its last 8 bytes (initialized) are the next
         # one's first: FILE is 4 of them, and what stands there is not listed
         held = record(size, *[bare(0x10, 16)] * 56, stream(), end=b"") if n else record(
-            size, list_of(*(to(3 + 60 * k // 34) for k in range(35))))
+            size, list_of(*(later(3 + 60 * k // 34) for k in range(35))))
         text[at + step * n:at + step * n + size] = held
     return bytes(text)
 
@@ -856,14 +925,14 @@ def random_held(chance):
 
 
 def random_listed(chance):
-    """A base record with lists of few keys, so that items have parts, and some of them refuse."""
+    """A base record with lists of few types and instances, so that items have parts, and some of them refuse."""
     size = chance.choice((256, 256, 512, 512, 1024, 2048, 4096))
     step = chance.choice((1, 1, 7, 10 ** 6, 10 ** 14))
     numbers = [chance.choice((0, 9, 10, 99, 40)) + k * step for k in range(chance.choice((2, 3, 4)))]
     base = chance.choice(numbers)
     records = {}
     for n in numbers:
-        held, left = [], size - 60
+        held, left, streams = [], size - 60, Streams(chance)
         while left > 0 and len(held) < 12:
             text = random_held(chance)
             if n == base and chance.random() < 0.5:
@@ -872,9 +941,8 @@ def random_listed(chance):
                     if chance.random() < 0.3:
                         key = chance.choice(TYPES), chance.randrange(3)
                     to_ = chance.choice(numbers) if chance.random() < 0.97 else numbers[-1] + 1
-                    ty = key[0] if chance.random() < 0.98 else 0x81
-                    entries.append(
-                        to(to_, key[1], ty, units=chance.choice((0, 0, 0, 2)), lowest=chance.getrandbits(64)))
+                    ty = None if chance.random() < 0.98 else 0x81
+                    entries.append(streams.entry(key, to_, chance.choice((0, 0, 0, 4)), ty=ty))
                 text = list_of(*entries, cut=chance.choice((0, 0, 0, 0, 0, 0, 1, 2, 25, 26)))
             if len(text) > left:
                 break
@@ -939,7 +1007,7 @@ def missing(case, listing):
 
 KINDS = (
     tables, table_limits, walks, walks_cut, used_sizes, used_sizes_looked_up, walks_to_unknown_types, walks_to_lists,
-    walks_along_lists, names, values, looked_up, runs, runs_of_any_size, runs_of_parts, parts, parts_behind,
+    walks_along_lists, names, values, looked_up, runs, runs_of_any_size, runs_of_parts, parts, parts_behind, joined,
     parts_refused, parts_refused_by_entries, most_parts, longest_lines, most_records, most_reads,
 )
 

@@ -13,7 +13,7 @@ from lib.building import (
 from lib.on_parts import COLLECT, REFUSALS, WALK, WITHIN, Parts, Question, said
 from lib.random_tables import part as placed
 from lib.reading.items import NO_LIST, Rest
-from lib.reading.parts import ROOM, Part
+from lib.reading.parts import ROOM, Part, walk
 
 # The base record is 40, of 512 bytes, with a list at 56, so that the first entry stands at 80.
 
@@ -42,9 +42,12 @@ FILES = {
     59: record(512, placed(0x80, 2, length=63, runs=65), used=118),
     # one that ends with the part, and a stale attribute behind it
     60: record(512, placed(0x80, 2, 0, 72, 66, 123456789), resident(0x80, 2), used=128),
+    # a part of another instance
+    61: record(512, resident(0x80, 2), placed(0x80, 3, 7, 72, 64, 5)),
 }
 
-# a good entry of 26 bytes with the part that it gives and what is read for it
+# a good entry of 26 bytes, which may be the first one or continue another, with the part that it gives and what is
+# read for it
 GOOD = (
     (entry(0x80, 41, 2, lowest=3), Part(41, 56, 0, 122, 6, 123456789, 3), 2),
     (entry(0x80, 42, 2, lowest=LAST), Part(42, 80, 2 ** 63 + 5, 144, 0, 0, LAST), 3),
@@ -94,23 +97,26 @@ def sample():
 
 # Cases by hand.
 
+def later(file=41, instance=2, lowest=1, ty=0x80, **given):
+    """An entry that continues those of no name."""
+    return entry(ty, file, instance, lowest=lowest, **given)
+
+
 BAD = (
     # the entry, what refuses, its record and place (none: the entry's), what is read for it
-    (entry(0x11, 41, 2), 6, None, 1), (entry(0, 41, 2), 6, None, 1), (entry(0x80, 41, 2)[:25], 14, None, 0),
-    (entry(0x80, 41, 2)[:1], 14, None, 0), (entry(0x80, 41, 2, length=25), 15, None, 0),
-    (entry(0x80, 41, 2, units=1, length=27), 15, None, 0), (entry(0x80, 41, 2, units=1)[:26], 16, None, 0),
-    (entry(0x80, 41, 2, units=255, length=600)[:27], 16, None, 0), (entry(0x80, 99, 2), 17, None, 1),
-    (entry(0x80, 2 ** 48 - 1, 2), 17, None, 1), (entry(0x80, 43, 2), 18, None, 3),
-    (entry(0x80, 44, 2), 2, (44, 0), 1),
-    (entry(0x80, 45, 2), 3, (45, 504), 2), (entry(0x80, 46, 2), 4, (46, 80), 2), (entry(0x80, 47, 2), 5, (47, 80), 2),
-    (entry(0x80, 48, 2), 6, (48, 80), 3), (entry(0x80, 49, 2), 19, (49, 80), 3), (entry(0x80, 50, 2), 7, (50, 56), 2),
+    (later()[:25], 14, None, 0), (later()[:1], 14, None, 0), (later(length=25), 15, None, 0),
+    (later(units=1, length=27), 15, None, 0), (later(units=1)[:26], 16, None, 0),
+    (later(units=255, length=600)[:27], 16, None, 0), (later(99), 17, None, 1),
+    (later(2 ** 48 - 1), 17, None, 1), (later(43), 18, None, 3), (later(44), 2, (44, 0), 1),
+    (later(45), 3, (45, 504), 2), (later(46), 4, (46, 80), 2), (later(47), 5, (47, 80), 2),
+    (later(48), 6, (48, 80), 3), (later(49), 19, (49, 80), 3), (later(50), 7, (50, 56), 2),
     # 19 before 7, 7 before 12
-    (entry(0x80, 51, 2), 12, (51, 56), 2), (entry(0x80, 52, 2), 19, (52, 56), 2),
-    (entry(0x80, 53, 2), 7, (53, 56), 2),
+    (later(51), 12, (51, 56), 2), (later(52), 19, (52, 56), 2), (later(53), 7, (53, 56), 2),
     # 2 before 27; 28 before 6, 19 and 7, and what it refuses is no read
-    (entry(0x80, 54, 2), 27, (54, 0), 1), (entry(0x80, 55, 2), 2, (55, 0), 1),
-    (entry(0x80, 56, 2), 28, (56, 80), 2), (entry(0x80, 57, 2), 28, (57, 80), 2), (entry(0x80, 58, 2), 28, (58, 80), 2),
-    (entry(0x80, 59, 2), 28, (59, 56), 1),
+    (later(54), 27, (54, 0), 1), (later(55), 2, (55, 0), 1), (later(56), 28, (56, 80), 2), (later(57), 28, (57, 80), 2),
+    (later(58), 28, (58, 80), 2), (later(59), 28, (59, 56), 1),
+    # of another instance, which is how it is looked up
+    (later(41, 3), 18, None, 2),
 )
 
 
@@ -129,6 +135,21 @@ def test_every_refusal(test):
             # each of them with less room too, and with the record as the walk finds it
             test.put_both(r, t, rest, rooms=range(before + 3))
             test.put(WALK, r, t, on=9)
+
+
+def test_an_unknown_type(test):
+    """6 at the first entry, one read; behind it, it ends the parts and counts one read too."""
+    for ty in (0x11, 0, 0x110, 2 ** 32 - 2):
+        for instance, file, lowest in ((2, 41, 1), (2, 41, 0), (3, 41, 1), (2, 40, 1), (2, 99, 1)):
+            last = later(file, instance, lowest, ty)
+            collected(test, "unknown type first", [last, ONE], [], "refused 6 40 80", 1)
+            for before in (1, 2, 5):
+                entries, parts, reads = good(before)
+                r, t, rest = listed([*entries, last, ONE])
+                q = Question(COLLECT, r, t, rest=rest)
+                test.case("unknown type ends", q, parts, "whole", sum(reads) + 1)
+                test.put_both(r, t, rest, rooms=range(before + 3))
+                test.put(WALK, r, t, on=9)
 
 
 def test_a_stale_tail(test):
@@ -163,15 +184,25 @@ def test_room(test):
 
 # An entry behind the last that has room: it is read and judged, and not looked up.
 BEHIND = (
-    ("20 before the lookup", entry(0x80, 99, 2), 20, 1), ("20 before the lookup", entry(0x80, 44, 2), 20, 1),
-    ("6 before 20", entry(0x11, 41, 2), 6, 1), ("the end before 20", entry(0x80, 41, 3), None, 1),
-    ("14 before 20", entry(0x80, 41, 2)[:25], 14, 0), ("15 before 20", entry(0x80, 41, 2, length=25), 15, 0),
-    ("16 before 20", entry(0x80, 41, 2, units=1)[:26], 16, 0),
+    ("20 before the lookup", later(99), 20, 1), ("20 before the lookup", later(44), 20, 1),
+    ("20 before the lookup", later(41, 3), 20, 1),
+    ("an unknown type before 20", later(ty=0x11), None, 1), ("the end before 20", later(lowest=0), None, 1),
+    ("the end before 20", later(units=1), None, 1), ("the end before 20", later(ty=0x90), None, 1),
+    ("14 before 20", later()[:25], 14, 0), ("15 before 20", later(length=25), 15, 0),
+    ("16 before 20", later(units=1)[:26], 16, 0),
 )
 
 
 def test_what_comes_before_20(test):
-    """14, 15, 16, 6 and the end of the parts, at an entry that has no room."""
+    """14, 15, 16 and the end of the parts, at an entry that has no room; and 6 at the first one."""
+    for last, number, reads in (
+        (entry(0x11, 41, 2), 6, 1), (later(ty=0), 6, 1), (ONE[:25], 14, 0), (later(length=25), 15, 0),
+        (later(units=1)[:26], 16, 0), (ONE, 20, 1), (entry(0x80, 99, 2), 20, 1),
+    ):
+        r, t, rest = listed([last])
+        q = Question(WITHIN, r, t, rest=rest, room=0)
+        name = "%d before 20" % number if number < 20 else "20 before the lookup"
+        test.case(name, q, [], "refused %d 40 80" % number, reads)
     for count in range(1, 9):
         entries, parts, reads = good(count)
         for name, last, end, more in BEHIND:
@@ -181,39 +212,98 @@ def test_what_comes_before_20(test):
             test.put_both(r, t, rest, rooms=(0, count - 1, count + 1, 157))
 
 
+# A name, "ab", and good entries that have it, with their parts.
+AB = b"a\0b\0"
+
+
+def named(file=41, lowest=1, name=AB, **given):
+    """An entry of this name."""
+    return later(file, lowest=lowest, units=len(name) // 2, name=name, **given)
+
+
+NAMED = [named(41, 3), named(42, LAST)]
+
+
 def test_an_entry_that_ends_the_parts(test):
-    """Another instance or known type ends them, an unknown type of the same instance refuses; what agrees behind it
-    is no part."""
-    for name, last, end in (
-        ("another instance ends", entry(0x80, 41, 3), "whole"),
-        ("another known type ends", entry(0x90, 41, 2), "whole"),
-        ("the marker's type ends", entry(reading.MARKER, 41, 2), "whole"),
-        ("unknown type of another instance ends", entry(0x11, 41, 3), "whole"),
-        ("unknown type of the same instance", entry(0x11, 41, 2), "refused 6 40 132"),
-        ("unknown type of the same instance, for the base record", entry(0x11, 40, 2), "refused 6 40 132"),
+    """One of another type or another name, or from VCN 0 on; what continues them behind it is no part."""
+    for name, last in (
+        ("VCN 0 ends", later(lowest=0)), ("VCN 0 ends", later(42, lowest=0)), ("VCN 0 ends", later(40, lowest=0)),
+        ("another type ends", later(ty=0x90)), ("the marker's type ends", later(ty=reading.MARKER)),
+        ("another type ends, for the base record", later(40, ty=0x10)),
+        ("a name ends those of none", later(units=1)), ("a name ends those of none", later(units=1, name=b"\0\0")),
     ):
-        collected(test, name, [ONE, TWO, last, ONE, TWO], [PART, OTHER], end, N + M + 1)
+        collected(test, name, [ONE, TWO, last, ONE, TWO], [PART, OTHER], "whole", N + M + 1)
+    for name, last in (
+        ("VCN 0 ends", named(lowest=0)), ("one byte different ends", named(name=b"a\0c\0")),
+        ("one byte different ends", named(name=b"b\0b\0")), ("one byte different ends", named(name=b"a\0b\1")),
+        ("one byte different ends", named(name=b"A\0b\0")), ("one unit shorter ends", named(name=b"a\0")),
+        ("one unit longer ends", named(name=AB + b"c\0")), ("one unit longer ends", named(name=AB + b"\0\0")),
+        ("no name ends", named(name=b"")), ("no name ends", named(name=b"", length=30)),
+        ("one unit shorter ends", later(units=1, name=AB, length=30)[:30]), ("another type ends", named(ty=0x90)),
+    ):
+        collected(test, name, [*NAMED, last, *NAMED], [PART, OTHER], "whole", N + M + 1)
+
+
+def test_an_entry_that_goes_on(test):
+    """Of the same type and name, and from a VCN on that is not 0: whatever its instance, its filling, the place that
+    it tells for its name, and the VCN of its attribute are."""
+    third = Part(61, 80, 7, 144, 8, 5, 1)
+    for first in ([], [ONE], [ONE, TWO]):
+        parts, reads = [PART, OTHER][:len(first)], sum((N, M)[:len(first)])
+        collected(
+            test, "another instance goes on", [*first, later(61, 3), ONE], [*parts, third, PART], "whole",
+            reads + 3 + N)
+    for last in (
+        named(length=31), named(length=38), named(name_offset=0), named(name_offset=28), named(sequence=9),
+    ):
+        collected(
+            test, "filling goes on", [*NAMED, last, NAMED[0]], [PART, OTHER, PART._replace(listed=1), PART], "whole",
+            N + M + 2 * N)
+    for lowest in (1, 2, 2 ** 32, 2 ** 63 - 1, 2 ** 63, LAST):
+        collected(
+            test, "VCN above 0 goes on", [NAMED[1], named(lowest=lowest)], [OTHER, PART._replace(listed=lowest)],
+            "whole", N + M)
+    for first, last in ((named(lowest=0), NAMED[1]), (later(lowest=0), TWO)):
+        collected(test, "VCN 0 first", [first, last], [PART._replace(listed=0), OTHER], "whole", N + M)
+    # nothing but 0 is asked of a VCN: one may come twice, or be below the one before
+    collected(
+        test, "VCNs in any order", [TWO, ONE, TWO, ONE, ONE], [OTHER, PART, OTHER, PART, PART], "whole", 3 * N + 2 * M)
+
+
+def test_the_longest_name(test):
+    """255 units are compared, to the last byte."""
+    longest = bytes(k % 255 + 1 for k in range(510))
+    files = {n: record(2048, placed(0x80, 2)) for n in (41, 42)}
+    parts = [Part(n, 56, 0, 120, 0, 4000, 1) for n in (41, 42)]
+    for name, other, count in (
+        ("255 units go on", longest, 2), ("255 units, the last byte different", longest[:-1] + b"\0", 1),
+        ("255 units, the first byte different", b"\0" + longest[1:], 1), ("254 units behind 255", longest[:-2], 1),
+        ("no name behind 255 units", b"", 1),
+    ):
+        entries = named(41, name=longest), named(42, name=other)
+        r = record(2048, list_of(*entries))
+        q = Question(COLLECT, r, table({40: r, **files}), rest=Rest(True, 80, 80 + sum(map(len, entries))))
+        test.case(name, q, parts[:count], "whole", 4 if count == 2 else 3)
 
 
 def test_a_list_that_ends(test):
     """The parts are whole where the list ends, also by an entry that is longer than what is left, even one of unknown
     type."""
     for ty in (0x80, 0x11):
-        longer = entry(ty, 41, 2, length=40)[:32]
+        longer = later(ty=ty, length=40)[:32]
         collected(test, "an entry that is longer than the list ends", [ONE, longer], [PART], "whole", N)
         collected(test, "no first entry", [longer], [], "whole", 0)
     collected(test, "the list ends", [ONE, TWO], [PART, OTHER], "whole", N + M)
 
 
 def test_what_is_compared(test):
-    """Only instance and type: not names, nor what is found; and the parts may begin at any entry."""
+    """Only what the entries say, not what is found; and the parts may begin at any entry."""
     r, t, rest = listed([ONE, TWO])
     test.case("from the second entry on", Question(COLLECT, r, t, rest=rest._replace(start=106)), [OTHER], "whole", M)
     # an entry of the marker's type is known, and no attribute has it
     collected(test, "first entry of the marker's type", [entry(reading.MARKER, 42, 2)], [], "refused 18 40 80", 3)
-    # nor does filling between entries count
-    named = [entry(0x80, 41, 2, units=3, lowest=3), entry(0x80, 42, 2, length=40, lowest=LAST, sequence=9)]
-    collected(test, "names are not compared", named, [PART, OTHER], "whole", N + M)
+    # the attributes have no name here, whatever the entries say
+    collected(test, "an attribute's own name is not compared", NAMED, [PART, OTHER], "whole", N + M)
     collected(test, "one attribute, three parts", [ONE, ONE, ONE], [PART] * 3, "whole", 3 * N)
 
 
@@ -226,6 +316,11 @@ def test_vcns(test):
             files = {41: record(512, placed(0x80, 2, own, 80, 70, own ^ 7))}
             part = Part(41, 56, own, 126, 10, own ^ 7, told)
             collected(test, name, [entry(0x80, 41, 2, lowest=told)], [part], "whole", 2, files=files)
+            # behind another one only where its entry says so
+            first = part._replace(listed=9)
+            collected(
+                test, name + ", behind another", [later(lowest=9), later(lowest=told)],
+                [first, part] if told else [first], "whole", 4 if told else 3, files=files)
 
 
 # A base-record entry; lists with it, the parts that they give (None: its own), and what is read for the others.
@@ -258,6 +353,26 @@ def test_base_record_entries(test):
             files = FILES if row is None else {40: row, **FILES}
             # the list attribute stands before it, so that each search reads two
             test.case(name, q._replace(table=table(files)), parts, "whole", reads + 3 * parts.count(own))
+
+
+def test_a_stream_that_begins_in_the_base_record(test):
+    """Its further parts are a separate item, by the first entry behind the base record's; from the base record's own
+    entry on, all are parts."""
+    own = entry(0x80, 40, 2)
+    lent = record(512, list_of(own, ONE, TWO), placed(0x80, 2, 0, 72, 64, 9), resident(0x30, 5))
+    t = table({40: lent, **FILES})
+    mine = Part(40, 160, 0, 224, 8, 9, 0)
+    name = "begins in the base record"
+    test.case(name, Question(COLLECT, lent, t, rest=Rest(True, 106, 158)), [PART, OTHER], "whole", N + M)
+    test.case(name, Question(COLLECT, lent, t, rest=Rest(True, 80, 158)), [mine, PART, OTHER], "whole", 3 + N + M)
+    test.put_literal_question("\n".join((
+        "item 41 56 128 72 0 2 rest 1 106 158 left 160 1 132 158 1 128 0 - reads 4",
+        said([PART, OTHER], "whole", N + M),
+        "item 40 160 128 72 0 2 rest 0 0 0 left 232 0 0 0 1 128 0 - reads 2", said([], "whole", 0),
+        "item 40 232 48 24 1 5 rest 0 0 0 left 256 0 0 0 1 128 0 - reads 1", said([], "whole", 0),
+        "end left 256 0 0 0 1 128 0 - reads 0")), Question(WALK, lent, t))
+    # one of VCN 0 ends the parts of a stream that began elsewhere
+    collected(test, "base-record entry of VCN 0", [ONE, own, TWO], [PART], "whole", N + 1)
 
 
 def test_the_lent_record_alone_is_searched(test):
@@ -312,11 +427,11 @@ def test_the_most_parts(test):
         end, reads = "refused 20 40 %d" % (FROM + ENTRY_BYTES * room), sum(MOST_READS[:room]) + 1
         test.case("157 parts, less room", q._replace(kind=WITHIN, room=room), MOST_PARTS[:room], end, reads)
     test.case("157 parts, room 157", q._replace(kind=WITHIN), MOST_PARTS, "whole", sum(MOST_READS))
-    # one of another instance behind 156, and a bad one
-    other = full_of((41 + k % 2 for k in range(ROOM)), b"\3\0")
+    # one from VCN 0 on behind 156, and a bad one
+    other = full_of((41 + k % 2 for k in range(ROOM)), later(lowest=0))
     reads = sum(MOST_READS[:156]) + 1
     test.case("156 parts and an end", q._replace(record=other), MOST_PARTS[:156], "whole", reads)
-    bad = full_of((41 + k % 2 for k in range(ROOM)), entry(0x80, 99, 2))
+    bad = full_of((41 + k % 2 for k in range(ROOM)), later(99))
     test.case("156 parts and a refusal", q._replace(record=bad), MOST_PARTS[:156], "refused 17 40 4070", reads)
 
 
@@ -339,10 +454,10 @@ def test_the_most_parts_of_a_walk(test):
         r[28:28 + len(listing)] = listing
         r[36 + ENTRY_BYTES * 156:40 + ENTRY_BYTES * 156] = END
         end = 36 + len(inside)
-        item = "item 41 56 256 72 0 2 rest 1 36 %d left 4092 1 62 %d 1 256 2 reads 3" % (end, end)
+        item = "item 41 56 256 72 0 2 rest 1 36 %d left 4092 1 62 %d 1 256 0 - reads 3" % (end, end)
         found = [MOST_PARTS[0]._replace(listed=len(inside) + (8 << 32)), *MOST_PARTS[1:count]]
         parts = said(found, "whole", sum(MOST_READS[:count]))
-        last = "end left 4092 0 0 0 1 256 2 reads %d" % (count - 1)
+        last = "end left 4092 0 0 0 1 256 0 - reads %d" % (count - 1)
         q = Question(WALK, bytes(r), table({40: bytes(r), **others}))
         test.put_literal_question("\n".join((item, parts, last)), q)
         test.classes["%d parts in a walk" % count] += 1
@@ -432,14 +547,22 @@ def behind(size, attribute):
     return zero_record(size, (56, attribute), *([(end, END)] if end < size else []))
 
 
+def listed_for_rust(*entries):
+    """The list of K of that page: entries, each (type, record), from VCN 1 on but for the first; what is otherwise may
+    follow."""
+    return list_of(*(
+        entry(ty, n, **{"lowest": min(k, 1), "sequence": 0, **dict(more)})
+        for k, (ty, n, *more) in enumerate(entries)), fill=b"\0")
+
+
 def list_for_rust(size, *entries):
     """K of that page."""
-    return behind(size, list_of(*(entry(ty, n, sequence=0) for ty, n in entries), fill=b"\0"))
+    return behind(size, listed_for_rust(*entries))
 
 
-def held_for_rust(size, inside, length=72):
+def held_for_rust(size, inside, length=72, instance=0):
     """A record with a part of these run bytes."""
-    text = head(0x80, length, False) + bytes(16) + b"\x40\0" + bytes(30) + inside
+    text = head(0x80, length, False, instance) + bytes(16) + b"\x40\0" + bytes(30) + inside
     return zero_record(size, (56, text), *([(56 + length, END)] if 56 + length < size else []))
 
 
@@ -450,12 +573,12 @@ def test_the_differences_page(test):
     three = list_for_rust(160, (0x80, 41), (0x80, 42), (0x80, 41))
     for number, base, others, parts, end, reads in (
         (20, three, {41: run}, [part], "refused 17 40 106", 3),
-        (21, list_for_rust(160, (0x80, 41), (0x11, 41), (0x80, 41)), {41: run}, [part], "refused 6 40 106", 3),
+        (21, list_for_rust(160, (0x80, 41), (0x11, 41), (0x80, 41)), {41: run}, [part], "whole", 3),
         (22, list_for_rust(128, (0x80, 41)), {41: held_for_rust(128, b"\xBB")}, [part], "whole", 2),
         (23, list_for_rust(120, (0x80, 41)), {41: held_for_rust(120, b"", 64)}, [part._replace(count=0)], "whole", 2),
         (
-            23, three, {41: run, 42: held_for_rust(160, b"", 64)}, [part, part._replace(file=42, count=0), part],
-            "whole", 6),
+            23, three, {41: run, 42: held_for_rust(160, b"", 64)},
+            [part, part._replace(file=42, count=0, listed=1), part._replace(listed=1)], "whole", 6),
         (
             24, list_for_rust(112, (0x80, 41)), {41: zero_record(112, (56, short), (72, END))}, [], "refused 7 41 56",
             2),
@@ -469,22 +592,111 @@ def test_the_differences_page(test):
         test.put(WALK, *lent, on=9)
 
 
+def run_for_rust(size, instance=0):
+    """A record with P of that page."""
+    return held_for_rust(size, b"\x11\1\1", instance=instance)
+
+
+def lists_for_rust(size, *lists):
+    """A record with some lists, one behind another."""
+    return zero_record(size, (56, b"".join(listed_for_rust(*entries) for entries in lists)))
+
+
+def with_own(base):
+    """The base record with P at 136."""
+    return base[:136] + run_for_rust(208)[56:128] + base[208:]
+
+
+# What joins entries: the number, the base record, the others; the items, each with its record, offset and parts (None:
+# it tells no list), and the refusals by 6, here and in the Rust.
+ONE_OF_ONE = (41, 56, [(41, 56)])
+JOINED = (
+    (
+        21, list_for_rust(160, (0x80, 41), (0x11, 41), (0x80, 41)), {41: run_for_rust(160)},
+        [ONE_OF_ONE, (6, 40, 106)], [(41, 56, [(41, 56), "refused 6 40 106"]), (6, 40, 106)]),
+    (
+        29, list_for_rust(136, (0x80, 41), (0x80, 42, ("instance", 1))),
+        {41: run_for_rust(136), 42: run_for_rust(136, 1)},
+        [(41, 56, [(41, 56), (42, 56)])], [ONE_OF_ONE, (42, 56, [(42, 56)])]),
+    (
+        30, list_for_rust(136, (0x80, 41), (0x80, 42, ("lowest", 0))),
+        {41: run_for_rust(136), 42: run_for_rust(136)},
+        [ONE_OF_ONE, (42, 56, [(42, 56)])], [(41, 56, [(41, 56), (42, 56)])]),
+    (
+        30, list_for_rust(136, (0x80, 41), (0x80, 42, ("units", 1), ("name", b"A\0"))),
+        {41: run_for_rust(136), 42: run_for_rust(136)},
+        [ONE_OF_ONE, (42, 56, [(42, 56)])], [(41, 56, [(41, 56), (42, 56)])]),
+    # what stays is the same in the Rust
+    (
+        31, list_for_rust(112, (0x80, 41)), {41: zero_record(
+            112, (56, struct.pack("<IIBBH", 0x80, 24, 0, 1, 22)), (80, END))}, [(41, 56, None)], None),
+    (31, list_for_rust(128, (0x80, 41, ("lowest", 1))), {41: run_for_rust(128)}, [ONE_OF_ONE], None),
+    (
+        32, with_own(list_for_rust(208, (0x80, 40), (0x80, 41))), {41: run_for_rust(208)},
+        [ONE_OF_ONE, (40, 136, None)], None),
+    (
+        32, with_own(list_for_rust(208, (0x80, 41), (0x80, 40))), {41: run_for_rust(208)},
+        [(41, 56, [(41, 56), (40, 136)]), (40, 136, None)], None),
+    (
+        33, list_for_rust(160, (0x80, 41), (0x10, 40), (0x80, 42)), {41: run_for_rust(160), 42: run_for_rust(160)},
+        [ONE_OF_ONE], None),
+    (
+        33, lists_for_rust(168, [(0x80, 41)], [(0x80, 42, ("lowest", 1))]),
+        {41: run_for_rust(168), 42: run_for_rust(168)}, [ONE_OF_ONE], None),
+    (
+        33, list_for_rust(160, (0x80, 41), (0x11, 42, ("instance", 1)), (0x80, 42)),
+        {41: run_for_rust(160), 42: run_for_rust(160)}, [ONE_OF_ONE, (6, 40, 106)], None),
+    (
+        34, list_for_rust(160, (0x80, 41), (0x10, 42), (0x80, 41)),
+        {41: run_for_rust(160), 42: zero_record(160, (56, resident(0x10)), (80, END))},
+        [ONE_OF_ONE, (42, 56, None), ONE_OF_ONE], None),
+)
+
+
+def walked(base, lent):
+    """A walk as these cases tell it."""
+    told = []
+    for answer, _, _, parts in walk(base, 40, lent, 9):
+        if isinstance(answer, reading.Refusal):
+            told.append((answer.number, answer.file, answer.place))
+        elif answer:
+            found, end, _ = parts
+            ended = [] if end is None else ["refused %d %d %d" % (end.number, end.file, end.place)]
+            found = [(part.file, part.offset) for part in found] + ended if answer.rest.there else None
+            told.append((answer.file, answer.attribute.offset, found))
+    return told
+
+
+def test_what_joins_entries_on_the_differences_page(test):
+    """Our side of it and the Rust's, both of the second reading; tests/compare_rust asks the Rust for these tables."""
+    for number, base, others, ours, theirs in JOINED:
+        lent = table({40: base, **others})
+        with reading.joined_by_instance():
+            before = walked(base, lent)
+        assert walked(base, lent) == ours and before == (theirs or ours), (number, walked(base, lent), before)
+        test.put(WALK, base, lent, on=9)
+        test.classes["no. %d of the differences" % number] += 1
+
+
 # The Rust's answers, kept.
 
 def test_the_answers_of_the_rust(test):
-    """The listings of tests/rust_parts.txt; one changed digit of them is noticed, at its case alone."""
+    """The listings of tests/rust_parts.txt, most of them by the program; one changed digit of them is noticed, at its
+    case alone."""
     text = rust.kept("rust_parts.txt")
-    cases, lines, parts, different = rust.replayed_parts(test, text)
-    test.stop_at(different, cases)
-    assert cases >= 100 and parts >= 400
+    told = rust.replayed_parts(test, text)
+    test.stop_at(told.different, told.cases)
+    assert told.cases >= 100 and told.parts >= 400 and told.joined * 2 < told.cases
     # each way in which parts can end where a walk asks for them; 7, 27 and 28 are not the Rust's
     values = [line.split(" value ")[1] for line in text.split("\n") if " value parts " in line]
     ways = {int(value.split(" refused ")[-1].split(" ")[0]) for value in values if " refused " in value}
     assert ways == set(REFUSALS) - {7, 20, 27, 28}, ways
     for start in ("attr ", "part ", "refused "):
         for changed in rust.changed_answers(text, 4, start):
-            assert len(rust.replayed_parts(test, changed)[3]) == 1
-    print("the Rust's answers to %d tables, %d lines, %d parts among them, replayed" % (cases, lines, parts))
+            assert len(rust.replayed_parts(test, changed).different) == 1
+    print("the Rust's answers to %d tables, %d lines, %d parts among them, replayed" % (
+        told.cases, told.lines, told.parts))
+    print("in %d of them type and name join otherwise" % told.joined)
 
 
 # The classes of cases by hand that have to be there, besides each refusal in the first and in a later part.
@@ -492,17 +704,22 @@ CLASSES = (
     "157 parts", "156 parts in a walk", "156 parts and an end", "156 parts and a refusal", "the most reads",
     "entry's VCN is another", "entry's VCN is the attribute's", "base-record entry in the middle",
     "base-record entry, another record in the table", "base-record entry, only the table's record has it",
-    "base-record entry without a row", "base-record number that no entry has", "another instance ends",
-    "another known type ends", "the marker's type ends", "unknown type of another instance ends",
-    "unknown type of the same instance", "unknown type of the same instance, for the base record",
+    "base-record entry without a row", "base-record number that no entry has", "another instance goes on",
+    "another type ends", "the marker's type ends", "another type ends, for the base record", "unknown type first",
+    "unknown type ends", "VCN 0 ends", "VCN 0 first", "VCN above 0 goes on", "VCNs in any order",
+    "a name ends those of none", "no name ends", "one byte different ends", "one unit shorter ends",
+    "one unit longer ends", "filling goes on", "255 units go on", "255 units, the last byte different",
+    "255 units, the first byte different", "254 units behind 255", "no name behind 255 units",
+    "base-record entry of VCN 0", "an attribute's own name is not compared", "begins in the base record",
+    "entry's VCN is another, behind another", "entry's VCN is the attribute's, behind another",
     "an entry that is longer than the list ends", "no first entry", "the list ends", "flag false", "from = to",
     "22 at the opening, from > to", "22 at the opening, past the record", "21 at the opening", "1 at the opening",
     "2 at the opening", "27 at the opening", "inside another attribute", "at the record's end", "under 26 bytes",
     "a used size at the part's end and above", "a used size inside the part", "base-record entry, near its used size",
-    *("no. %d of the differences" % number for number in range(20, 25)),
+    *("no. %d of the differences" % number for number in (*range(20, 25), *range(29, 35))),
     *("%d in the %s part" % (number, part) for number in REFUSALS if number != 20 for part in ("first", "later")),
     "room 0", "room enough", "room one short", "20 before the lookup", "6 before 20", "14 before 20", "15 before 20",
-    "16 before 20", "the end before 20", "157 parts, less room", "157 parts, room 157",
+    "16 before 20", "the end before 20", "an unknown type before 20", "157 parts, less room", "157 parts, room 157",
 )
 
 

@@ -379,6 +379,7 @@ Dumping attribute $DATA (0x80) from mft record 70 (0x46)
 \tAttribute name:\t\t 'Runlist:'
 \tAttribute instance:\t 2 (0x2)
 \tLowest VCN\t\t 0 (0x0)
+\tHighest VCN:\t\t 16 (0x10)
 \tRunlist:\tVCN\t\tLCN\t\tLength
 \t\t\t0x0\t\t<HOLE>\t\t0x10
 \t\t\t0x10\t\t0x3837\t\t0x1
@@ -387,6 +388,7 @@ Dumping attribute $DATA (0x80) from mft record 71 (0x47)
 \tResident: \t\t No
 \tAttribute instance:\t 2 (0x2)
 \tLowest VCN\t\t 17 (0x11)
+\tHighest VCN:\t\t 48 (0x30)
 \tRunlist:\tVCN\t\tLCN\t\tLength
 \t\t\t0x0\t\t<RL_NOT_MAPPED>\t0x11
 \t\t\t0x11\t\t0x0\t\t0x20
@@ -415,6 +417,8 @@ def test_what_the_witnesses_print(test):
     told."""
     test.same("ntfsinfo", witnesses.told_by_ntfsinfo(NTFSINFO), {
         (70, 0x80, 2): (0, [(None, 16), (0x3837, 1)]), (71, 0x80, 2): (17, [(0, 32)])})
+    test.same("ntfsinfo", witnesses.attributes_by_ntfsinfo(NTFSINFO), [
+        (70, 0x10, "", 0, True, 0, 0), (70, 0x80, "Runlist:", 2, False, 0, 16), (71, 0x80, "", 2, False, 17, 48)])
     test.same("istat", witnesses.told_by_istat(ISTAT), {
         (0x80, ""): (69632, [(None, 16), (14391, 1)]), (0x80, "s 9"): (0, [(witnesses.FILLER, 17), (0, 32)])})
     for read, text, wrong in (
@@ -422,6 +426,9 @@ def test_what_the_witnesses_print(test):
                 ("<HOLE>", "<ENOENT>"), ("0x3837", "3837"), ("0x11\t\t<", "0x12\t\t<"), ("0x11\t\t0", "0x12\t\t0"),
                 ("Lowest VCN\t\t 17", "Lowest VCN\t\t 16"), ("record 71", "record 70"),
                 ("\tAttribute instance", "\tInstance"))),
+            (witnesses.attributes_by_ntfsinfo, NTFSINFO, (
+                ("Lowest VCN\t\t 17", "Lowest\t\t 17"), ("Highest VCN:\t\t 48", "Highest"),
+                ("Attribute instance:\t 0", "Instance:\t 0"), ("record 71", "record 70"))),
             (witnesses.told_by_istat, ISTAT, (("Sparse\n", "Sparser\n"), ("address: 1", "address: X"),
                                               ("Name: s 9", "Name: N/A"), ("Starting address: 0", "Beginning at 0")))):
         for old, new in wrong:

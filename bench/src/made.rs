@@ -47,11 +47,12 @@ fn runs(instance: usize, lowest: usize) -> Vec<u8> {
 }
 
 /// A list entry without a name, in 32 bytes.
-fn entry(file: usize, instance: usize) -> Vec<u8> {
+fn entry(file: usize, instance: usize, lowest: usize) -> Vec<u8> {
     let mut e = vec![0u8; 32];
     e[0] = DATA;
     e[4] = 32;
     e[7] = 26;
+    e[8..16].copy_from_slice(&(lowest as u64).to_le_bytes());
     e[16..22].copy_from_slice(&(file as u64).to_le_bytes()[..6]);
     e[24..26].copy_from_slice(&(instance as u16).to_le_bytes());
     e
@@ -100,19 +101,20 @@ pub fn raw(size: usize) -> Vec<u8> {
 /// for each.
 pub fn searched(size: usize) -> Vec<u8> {
     let last = (size - 56 - 4) / 24 - 1;
-    let base = listing(size, |i| entry(41 + i % 3, last));
+    let base = listing(size, |i| entry(41 + i % 3, last, 0));
     table(size, &[base, full(size), full(size), full(size)], 4)
 }
 
-/// A list of one stream, its parts in eight records in turn, each found at once.
+/// A list of one stream, its parts in eight records in turn, each found at once. It is one by type and name, the first
+/// entry alone being from VCN 0 on, and by type and instance.
 pub fn parts(size: usize) -> Vec<u8> {
-    let mut records = vec![listing(size, |i| entry(41 + i % 8, 3))];
+    let mut records = vec![listing(size, |i| entry(41 + i % 8, 3, i))];
     records.extend((0..8).map(|i| filled(size, &[runs(3, 8 * i)])));
     table(size, &records, 9)
 }
 
 /// A list whose entries lead to the first attribute of the last of many rows.
 pub fn rows(rows: usize) -> Vec<u8> {
-    let base = listing(1024, |i| entry(40 + rows - 1 - i, 0));
+    let base = listing(1024, |i| entry(40 + rows - 1 - i, 0, 0));
     table(1024, &[base, full(1024)], rows)
 }

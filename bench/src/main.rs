@@ -1,6 +1,9 @@
 //! Times the proved listing against the Rust crate's over the same tables, in one process, by turns.
 //!
-//!     bench [--once | --ours] VOLUMES      VOLUMES: a folder with tables of real volumes (*.tab)
+//!     bench [--once | --ours] VOLUMES [NAME ..]
+//!
+//! VOLUMES is a folder with tables of real volumes (*.tab). A NAME is one of them in which the Rust joins entries
+//! otherwise (bench/joined tells them): it is timed for ours alone.
 //!
 //! With --once each table is listed once by both, for an instruction counter; with --ours by ours alone, in 20,000
 //! passes, for a profiler. Neither times anything.
@@ -35,15 +38,17 @@ struct Case {
     runs: f64,
 }
 
-/// A table that is not timed beside the Rust, and why.
+/// A table that is not timed beside the Rust, and why. One that the Rust joins otherwise tells no run either.
 struct Left {
     name: String,
     table: Vec<u8>,
     why: &'static str,
 }
 
-/// Why a table is left that 27 or 28 decides: it is timed for ours alone.
+/// Why a table is left that 27 or 28 decides, or in which type and name tell other streams than type and instance: it
+/// is timed for ours alone.
 const DECIDED: &str = "27, 28";
+const JOINED: &str = "joined";
 
 /// The middle times of one listing: ours, the Rust's, and the Rust's from the table's bytes on.
 #[derive(Clone, Copy)]
@@ -119,17 +124,25 @@ fn case(name: &str, table: Vec<u8>, out: &mut [u8], room: &mut Room) -> Result<C
 }
 
 /// The tables of a folder that both list alike, and those that ours alone lists.
-fn real(folder: &str, out: &mut [u8], room: &mut Room) -> (Vec<Case>, Vec<Left>) {
+fn real(folder: &str, joined: &[String], out: &mut [u8], room: &mut Room) -> (Vec<Case>, Vec<Left>) {
     let mut names: Vec<_> = std::fs::read_dir(folder).expect(folder).map(|e| e.unwrap().path()).collect();
     names.retain(|n| n.extension().is_some_and(|e| e == "tab"));
     names.sort();
     let (mut cases, mut alone, mut left) = (vec![], vec![], BTreeMap::new());
     for path in &names {
-        match case(&path.file_stem().unwrap().to_string_lossy(), std::fs::read(path).unwrap(), out, room) {
+        let (name, table) = (path.file_stem().unwrap().to_string_lossy(), std::fs::read(path).unwrap());
+        let given = if joined.iter().any(|other| *other == *name) {
+            let end = ours::list(&table, out);
+            let table = without_runs(&table, &apart(&out[..end]).0);
+            Err(Left { name: name.into(), table, why: JOINED })
+        } else {
+            case(&name, table, out, room)
+        };
+        match given {
             Ok(c) => cases.push(c),
             Err(table) => {
                 *left.entry(table.why).or_insert(0) += 1;
-                alone.extend((table.why == DECIDED).then_some(table));
+                alone.extend([DECIDED, JOINED].contains(&table.why).then_some(table));
             }
         }
     }
@@ -236,14 +249,15 @@ fn report_runs(cases: &[Case], times: &[Times], out: &mut [u8]) {
     println!("\nwith their {lines} lines of runs: ours {with:.0} ns, {:.1} ns a line", (with - without) / lines);
 }
 
-/// The tables that 27 or 28 decides, by ours alone: the Rust lists more of them, so there is nothing to hold ours to.
+/// The tables that are left to ours alone, each with its class: the Rust lists something else of them, so there is
+/// nothing to hold ours to.
 fn report_alone(alone: &[Left], out: &mut [u8]) {
     for one in alone {
         let mut times = Vec::new();
         for _ in 0..ROUNDS {
             times.push(turn(|| { black_box(ours::list(black_box(&one.table), black_box(&mut *out))); }));
         }
-        println!("decided by 27 or 28, {}: ours {:.0} ns", one.name, middle(times));
+        println!("ours alone, class {}, {}: {:.0} ns", one.why, one.name, middle(times));
     }
 }
 
@@ -282,14 +296,14 @@ fn counted(cases: &mut [Case], out: &mut [u8], room: &mut Room) {
 
 fn main() {
     let words: Vec<_> = std::env::args().skip(1).collect();
-    let (mode, folder) = match &words[..] {
-        [folder] => ("", folder),
-        [mode, folder] if mode == "--once" || mode == "--ours" => (&mode[..], folder),
-        _ => panic!("usage: bench [--once | --ours] VOLUMES"),
+    let (mode, words) = match &words[..] {
+        [mode, words @ ..] if mode == "--once" || mode == "--ours" => (&mode[..], words),
+        words => ("", words),
     };
+    let [folder, joined @ ..] = words else { panic!("usage: bench [--once | --ours] VOLUMES [NAME ..]") };
     theirs::begin();
     let (mut out, mut room) = (vec![0u8; ROOM], Room::of(ROOM));
-    let (mut cases, alone) = real(folder, &mut out, &mut room);
+    let (mut cases, alone) = real(folder, joined, &mut out, &mut room);
     if mode == "--once" {
         return counted(&mut cases, &mut out, &mut room);
     }

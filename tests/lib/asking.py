@@ -67,6 +67,10 @@ class Asker:
     def packed(self, q):
         raise NotImplementedError
 
+    def pieces(self, q):
+        """What stands in a packed question behind its numbers."""
+        return q.record, q.table
+
     def shown(self, q):
         """The question for people: how many bytes there are, not which."""
         return q._replace(record="%d bytes" % len(q.record), table="%d bytes" % len(q.table))

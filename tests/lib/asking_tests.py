@@ -33,11 +33,13 @@ def a_difference_is_noticed(asker, questions):
 def a_cut_question_ends_the_program(asker, q):
     """It ends without an answer to it, and what was answered before stands."""
     whole, answer = asker.packed(q), text_of([asker.expected(q)])
-    for at in question.cuts(whole, q.record, q.table):
+    for at in question.cuts(whole, *asker.pieces(q)):
         assert programs.run(programs.ASKED, whole + whole[:at]) == answer, at
-    # so does one with a number that there is not
+    # so does one with a number that there is not, and one with more bytes for a name than that has
     strange = bytes((q.kind, 1, len(question.TAGS))) + bytes(8)
-    assert programs.run(programs.ASKED, whole + strange + whole) == answer
+    long = question.question(q.kind, name=bytes(question.NAME + 1))
+    for other in (strange, long):
+        assert programs.run(programs.ASKED, whole + other + whole) == answer
     # and a record that the program has no room for
     room = question.ROOM - len(q.table)
     assert programs.run(programs.ASKED, asker.packed(q._replace(record=bytes(room + 1))) + whole) == ""

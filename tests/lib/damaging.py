@@ -79,7 +79,7 @@ def hurt_attribute(r, a, chance):
 
 def hurt_entry(r, at, numbers, chance):
     """One field of an entry, or a byte of it."""
-    what = chance.randrange(9)
+    what = chance.randrange(11)
     if what == 0:
         struct.pack_into("<I", r, at, chance.choice(TYPES))
     elif what in (1, 2):
@@ -96,6 +96,10 @@ def hurt_entry(r, at, numbers, chance):
     elif what == 7:
         struct.pack_into(
             "<H", r, at + 24, chance.choice((0, 1, 2, 3, 4, struct.unpack_from("<H", r, at + 24)[0] ^ 1)))
+    elif what == 8:
+        struct.pack_into("<Q", r, at + 8, chance.choice((0, 0, 1, 5, 2 ** 63, 2 ** 64 - 1)))
+    elif what == 9 and r[at + 6] and at + ENTRY_BYTES + 2 * r[at + 6] <= len(r):
+        r[at + ENTRY_BYTES + chance.randrange(2 * r[at + 6])] ^= 1 << chance.randrange(8)
     else:
         r[at + chance.randrange(26)] = chance.randrange(256)
 

@@ -3,8 +3,9 @@ from typing import NamedTuple
 
 from lib import reading
 from lib.asking import Asker
-from lib.question import ON_ITEMS, key_numbers, list_numbers, question
+from lib.question import ON_ITEMS, key_told, list_numbers, name_told, question
 from lib.reading import items
+from lib.reading.entries import MOST_NAME
 from lib.reading.items import NO_KEY, NO_LIST, Key, Rest, State
 
 FRESH, NEXT, WALK, FIRST = KINDS = range(4)
@@ -13,6 +14,11 @@ CALLS = ("State::fresh", "File::next", "File::next, from fresh on through refusa
 # how many calls a walk makes at most
 TURNS = 400
 START = State(0, NO_LIST, NO_KEY)
+
+
+def key_with(ty, units, name=b""):
+    """A key of so many units whose 510 bytes begin with these: the name, and what stands behind it."""
+    return Key(True, ty, units, name.ljust(MOST_NAME, b"\0"))
 
 
 class Question(NamedTuple):
@@ -40,10 +46,15 @@ def said(answer):
         answer.file, a.offset, a.ty, a.length, a.resident, a.instance, *answer.rest)
 
 
+def said_key(key):
+    """A name is told in hex up to its last byte that is not 0, a dash where it has none."""
+    return "%d %d %d %s" % (key.there, key.ty, key.units, name_told(key).hex() or "-")
+
+
 def said_state(state):
     # a list or a key that is not there has no numbers
     rest, key = state.rest if state.rest.there else NO_LIST, state.key if state.key.there else NO_KEY
-    return "left %d %d %d %d %d %d %d" % (state.raw, *rest, *key)
+    return "left %d %d %d %d %s" % (state.raw, *rest, said_key(key))
 
 
 def said_call(answer, left, reads):
@@ -53,8 +64,9 @@ def said_call(answer, left, reads):
 def state_in(line):
     """The state that a line of a call tells of."""
     words = line.split(" left ")[1].split(" ")
-    place, there, start, end, is_, ty, instance = map(int, words[:7])
-    return State(place, Rest(there == 1, start, end), Key(is_ == 1, ty, instance))
+    place, there, start, end, is_, ty, units = map(int, words[:7])
+    name = bytes.fromhex("" if words[7] == "-" else words[7])
+    return State(place, Rest(there == 1, start, end), Key(is_ == 1, ty, units, name.ljust(MOST_NAME, b"\0")))
 
 
 def lines_of(answer):
@@ -66,9 +78,15 @@ class Items(Asker):
 
     CALLS = CALLS
 
+    def shown(self, q):
+        return super().shown(q)._replace(state=said_state(q.state))
+
+    def pieces(self, q):
+        return *super().pieces(q), name_told(q.state.key)
+
     def packed(self, q):
         """A state is sent as its place, its list and its key."""
-        key = key_numbers(q.state.key)
+        key = key_told(q.state.key)
         # one type serves the key of a state and the first of a type: no call has both
         if q.kind == FIRST:
             key["ty"] = q.ty

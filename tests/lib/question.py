@@ -1,8 +1,9 @@
 """A question to the program `ask`, in bytes, as crates/ask/src/question.rt reads it.
 
 A byte for what is asked (its kind), a byte for how many numbers come with it, each number as a byte for its tag and
-eight for its value; then the record and the table. A number that is 0 does not come. A call that asks for more takes
-a new tag, behind the others: no other question changes, and no other test.
+eight for its value; then the record, the table, and what a key's name begins with, up to its last byte that is not 0.
+A number that is 0 does not come. A call that asks for more takes a new tag, behind the others: no other question
+changes, and no other test.
 """
 import functools
 import struct
@@ -14,12 +15,13 @@ ON_RECORDS, ON_TABLES, ON_ITEMS, ON_PARTS, ON_LISTINGS, ON_RUNS = 0, 16, 23, 27,
 TAGS = {
     name: tag for tag, name in enumerate((
         "number", "place", "wanted", "list", "list_from", "list_to", "key", "ty", "instance", "most", "record_bytes",
-        "table_bytes", "buffer", "last", "sum", "run_bytes",
+        "table_bytes", "buffer", "last", "sum", "run_bytes", "units", "name_bytes",
     ))
 }
 
-# How many bytes a question's record and table may have together.
+# How many bytes a question's record and table may have together, and how many a key's name has.
 ROOM = 131072
+NAME = 510
 
 LAST = 2 ** 64 - 1
 
@@ -39,9 +41,10 @@ def head(kind, **numbers):
     return form(len(flat) // 2).pack(kind, len(flat) // 2, *flat)
 
 
-def question(kind, record=b"", table=b"", **numbers):
+def question(kind, record=b"", table=b"", name=b"", **numbers):
     """A question packed, with the numbers that its kind reads."""
-    return head(kind, **numbers, record_bytes=len(record), table_bytes=len(table)) + record + table
+    sizes = {"record_bytes": len(record), "table_bytes": len(table), "name_bytes": len(name)}
+    return head(kind, **numbers, **sizes) + record + table + name
 
 
 def list_numbers(rest):
@@ -49,16 +52,23 @@ def list_numbers(rest):
     return dict(zip(("list", "list_from", "list_to"), map(int, rest)))
 
 
-def key_numbers(key):
-    """A skip key: a flag, a type and an instance."""
-    return dict(zip(("key", "ty", "instance"), map(int, key)))
+def name_told(key):
+    """The bytes of a skip key's name that come: the others are 0."""
+    return key.name.rstrip(b"\0")
 
 
-def cuts(packed, record, table):
-    """Places where a packed question can be cut: in its head, its record and its table, and where each begins and
-    ends."""
+def key_told(key):
+    """A skip key: a flag, a type, the units of its name, and its name."""
+    return {"key": int(key.there), "ty": key.ty, "units": key.units, "name": name_told(key)}
+
+
+def cuts(packed, *pieces):
+    """Places where a packed question can be cut: in its head and in each of the pieces behind that, and where each
+    begins and ends."""
     whole = len(packed)
-    first = whole - len(record) - len(table)
-    second = whole - len(table)
-    places = {0, 1, 2, 3, first - 9, first - 8, first - 1, first, first + 1, second, second + 1, whole - 1}
+    first = whole - sum(map(len, pieces))
+    places = {0, 1, 2, 3, first - 9, first - 8, whole - 1}
+    for piece in pieces:
+        places |= {first - 1, first, first + 1}
+        first += len(piece)
     return sorted(at for at in places if 0 <= at < whole)

@@ -19,14 +19,51 @@ SIZES = (
 # how many records have another used size than their length
 OTHER_USED = 0.1
 
+# Names of entries, most of them the front of another one; and lowest VCNs.
+NAMES = (b"", b"a\0", b"a\0b\0", b"a\0b\0c\0", b"b\0", b"a\0\0\0")
+VCNS = (0, 0, 1, 5, 16, 2 ** 31, 2 ** 32 + 1, 2 ** 63 - 1, 2 ** 63, 2 ** 64 - 1)
 
-def random_attribute(chance, numbers, left):
+# in how many records the entries of one type and instance are not always those of one type and name
+OTHER_JOINED = 0.4
+
+
+class Streams:
+    """What the entries of a record's lists are called, and from which VCN on they are.
+
+    Most often an instance has a name of its own, and what follows at once is from a VCN above 0 on, so that type and
+    instance tell the same streams as type and name. In the other records two instances have one name, a name changes,
+    and what follows is from VCN 0 on now and then.
+    """
+
+    def __init__(self, chance):
+        self.chance, self.other = chance, chance.random() < OTHER_JOINED
+        names = chance.sample(NAMES, len(NAMES))
+        self.names = {k: chance.choice(names[:3]) if self.other else name for k, name in enumerate(names)}
+        self.last = None
+
+    def entry(self, key, file, more=0, length=None, ty=None, **given):
+        """The next entry, of this type and instance, `more` bytes longer than it must be; its type and its length may
+        be others."""
+        follows = key == self.last
+        self.last = key
+        name = self.names[key[1] % len(NAMES)]
+        if self.other and self.chance.random() < 0.1:
+            name = self.chance.choice(NAMES)
+        lowest = self.chance.choice(VCNS)
+        if follows and lowest == 0 and not self.other:
+            lowest = 1
+        length = ENTRY_BYTES + len(name) + more if length is None else length
+        return entry(
+            key[0] if ty is None else ty, file, key[1], length, len(name) // 2, lowest, name=name, **given)
+
+
+def random_attribute(chance, numbers, left, streams):
     """An attribute that fits most often, of an instance that others have too."""
     ty = chance.choice((0x10, 0x30, 0x80, 0x80, 0x80, 0x90, 0x100, 0x11 if chance.random() < 0.2 else 0x40))
     instance = chance.randrange(4)
     roll = chance.random()
     if roll < 0.30:
-        return random_list(chance, numbers, left)
+        return random_list(chance, numbers, left, streams)
     if roll < 0.60:
         text = resident(ty, instance, chance.choice((24, 24, 32, 40)))
     elif roll < 0.85:
@@ -39,28 +76,23 @@ def random_attribute(chance, numbers, left):
     return text
 
 
-def random_entry(chance, numbers, key):
-    """An entry of this key most often, that names one of these records most often."""
-    units = chance.choice((0, 0, 0, 1, 3))
-    end = ENTRY_BYTES + 2 * units
-    length = chance.choice((end, end, 32 + 2 * units, 40))
-    if chance.random() < 0.03:
-        length = chance.choice((0, 25, 26, 27, 28, 29, 40, 64, 200, 65535))
-    # often a second entry of one key, at once or behind others
+def random_entry(chance, numbers, key, streams):
+    """An entry of this type and instance often, that names one of these records most often."""
+    length = chance.choice((0, 25, 26, 27, 28, 29, 40, 64, 200, 65535)) if chance.random() < 0.03 else None
+    # often a second entry of one kind, at once or behind others
     if chance.random() < 0.7:
         key = chance.choice((0x10, 0x30, 0x80, 0x80, 0x80, 0x90, 0x40, 0x20)), chance.randrange(4)
-    ty, instance = key
-    if chance.random() < 0.03:
-        ty = chance.choice((0, 0x11, 0x110, reading.MARKER))
+    ty = chance.choice((0, 0x11, 0x110, reading.MARKER)) if chance.random() < 0.03 else None
     number = chance.choice(numbers) if chance.random() < 0.96 else chance.choice((0, 2 ** 48 - 1, numbers[-1] + 1))
-    return entry(ty, number, instance, length, units, sequence=chance.randrange(65536)), key
+    more = chance.choice((0, 0, 6, 14))
+    return streams.entry(key, number, more, length, ty, sequence=chance.randrange(65536)), key
 
 
-def random_list(chance, numbers, left):
+def random_list(chance, numbers, left, streams):
     """A list that most often fits into what is left."""
     entries, room, key = b"", max(0, left - RESIDENT_BYTES), (0x80, 0)
     for _ in range(chance.randrange(9)):
-        e, key = random_entry(chance, numbers, key)
+        e, key = random_entry(chance, numbers, key, streams)
         if len(entries) + len(e) > room and chance.random() < 0.9:
             break
         entries += e
@@ -80,12 +112,12 @@ def random_list(chance, numbers, left):
 def random_record(chance, numbers, size, listed):
     """A record of attributes that most often fit, with lists where it is to have them."""
     first = chance.choice((56, 56, 56, 48, 42, 40, 64)) if size > 64 else chance.choice((40, 42, 44, 48, 56))
-    attributes, at = [], first
+    attributes, at, streams = [], first, Streams(chance)
     for _ in range(chance.randrange(1, 12)):
         left = size - at
         if left < 16 and chance.random() < 0.8:
             break
-        text = random_attribute(chance, numbers, left if listed else 0)
+        text = random_attribute(chance, numbers, left if listed else 0, streams)
         if not listed and text[:4] == b"\x20\0\0\0" and chance.random() < 0.7:
             text = resident(0x80, chance.randrange(4))
         if at + len(text) > size and chance.random() < 0.7:
@@ -128,28 +160,31 @@ def whole_records(chance, numbers, size):
     return held
 
 
-def chained_list(chance, numbers, left):
-    """A list of entries of few keys."""
+def chained_list(chance, numbers, left, streams):
+    """A list of entries of few types and instances."""
     entries, key = [], (0x80, 0)
     for _ in range(chance.randrange(1, max(2, (left - RESIDENT_BYTES) // ENTRY_BYTES))):
         if chance.random() < 0.4:
             key = chance.choice((0x80, 0x90)), chance.randrange(3)
-        entries.append(entry(key[0], chance.choice(numbers), key[1], chance.choice((26, 26, 26, 32))))
+        entries.append(streams.entry(key, chance.choice(numbers), chance.choice((0, 0, 0, 6))))
+        if sum(map(len, entries)) > left - RESIDENT_BYTES:
+            entries.pop()
+            break
     return list_of(*entries)
 
 
 def chained_table(chance):
-    """A base record full of entries of few keys, the records behind them whole: items, keys and passing over, hardly
-    a refusal."""
+    """A base record full of entries of few types and instances, the records behind them whole: items, keys and passing
+    over, hardly a refusal."""
     size = chance.choice((256, 512, 512, 1024))
     numbers = [40, 41, 42, 43]
     others = whole_records(chance, numbers[1:], size)
-    attributes, left = [], size - FIRST - len(END)
+    attributes, left, streams = [], size - FIRST - len(END), Streams(chance)
     while left > 60 and len(attributes) < 12:
         if chance.random() < 0.5:
             text = resident(chance.choice((0x10, 0x30, 0x80)), chance.randrange(4))
         else:
-            text = chained_list(chance, numbers, left)
+            text = chained_list(chance, numbers, left, streams)
         if len(text) > left:
             break
         attributes.append(text)
@@ -198,7 +233,6 @@ def large_table(chance):
 
 # run bytes: some that decode, none, and some that do not
 INSIDE = (b"\x11\x05\x07", b"\x11\x05\x07", b"\x21\x10\x34\x02", b"\x01\x08", b"\0", b"\xBB")
-VCNS = (0, 0, 1, 5, 16, 2 ** 31, 2 ** 32 + 1, 2 ** 63 - 1, 2 ** 63, 2 ** 64 - 1)
 
 # Where an attribute that is not resident keeps its data size, and where that ends.
 SIZE_AT, SIZE_END = 48, 56
@@ -247,34 +281,32 @@ def record_of_parts(chance, keys, size):
     return with_other_used(record(size, *attributes, magic=magic, end=end), chance, OTHER_USED)
 
 
-def list_of_parts(chance, keys, numbers, left):
-    """A list of entries of few keys, many of one key behind each other."""
+def list_of_parts(chance, keys, numbers, left, streams):
+    """A list of entries of few types and instances, many of one kind behind each other."""
     entries, key = b"", chance.choice(keys)
     for _ in range(chance.randrange(1, max(2, (left - RESIDENT_BYTES) // ENTRY_BYTES))):
         if chance.random() < 0.2:
             key = chance.choice(keys)
-        ty = key[0] if chance.random() < 0.98 else chance.choice((0x11, 0, 0x110, reading.MARKER))
+        ty = None if chance.random() < 0.98 else chance.choice((0x11, 0, 0x110, reading.MARKER))
         number = chance.choice(numbers) if chance.random() < 0.93 else chance.choice((40, 40, 99))
-        units = chance.choice((0, 0, 0, 2))
-        length = ENTRY_BYTES + 2 * units
-        length = length + chance.choice((0, 0, 6)) if chance.random() < 0.99 else chance.choice((0, 25, 27, 60, 300))
-        entries += entry(ty, number, key[1], length, units, chance.choice(VCNS))
+        length = None if chance.random() < 0.99 else chance.choice((0, 25, 27, 60, 300))
+        entries += streams.entry(key, number, chance.choice((0, 0, 6)), length, ty)
     cut = chance.choice((0, 0, 0, 0, 0, 0, 1, 6, 25, 26)) if len(entries) > ENTRY_BYTES else 0
     return list_of(entries, cut=cut)
 
 
 def streams_table(chance):
-    """A base record whose lists have entries of few keys, and records with parts of these keys."""
+    """A base record whose lists have entries of few types and instances, and records with parts that have these."""
     size = chance.choice((256, 512, 512, 1024, 1024))
     numbers = (41, 42, 43, 44)
     keys = [(0x80, 0), (0x80, 1), (0x90, 0), (0xA0, 1)]
     records = {n: record_of_parts(chance, keys, size) for n in numbers}
-    attributes, left = [], size - FIRST - len(END)
+    attributes, left, streams = [], size - FIRST - len(END), Streams(chance)
     while left > 60 and len(attributes) < 6:
         if chance.random() < 0.35:
             text = random_part(chance, *chance.choice(keys))
         else:
-            text = list_of_parts(chance, keys, numbers, left)
+            text = list_of_parts(chance, keys, numbers, left, streams)
         if len(text) > left:
             continue
         attributes.append(text)

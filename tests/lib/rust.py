@@ -2,6 +2,10 @@
 words.
 
 tests/compare_rust makes these files and compares with the crate itself; here no Rust is needed.
+
+The Rust joins entries by type and instance, and the rules by type and name. So each kept answer is held to the second
+reading as it joins them so, and the program to the second reading by the rules: where the two readings agree, the
+program is held to the Rust, and how many tables they differ on is told.
 """
 import base64
 import os
@@ -10,7 +14,7 @@ import struct
 import zlib
 from typing import NamedTuple
 
-from lib import on_items, on_parts, on_records, volumes
+from lib import on_items, on_parts, on_records, reading, volumes
 from lib.programs import TESTS
 from lib.reading import items
 
@@ -120,25 +124,55 @@ def first_told(line):
     return "item %s %s" % (words[1], words[2]) if words[0] == "item" else refused_in_walk(words)
 
 
+class Replayed(NamedTuple):
+    """How many cases and lines of them were replayed, how many parts among these, in how many cases the two readings
+    differ, and (question, expected, found) of what differs."""
+
+    cases: int
+    lines: int
+    parts: int
+    joined: int
+    different: list
+
+
+class Held:
+    """Holds the kept lines to what is read as the Rust joins entries, and the program's to what is read by the
+    rules."""
+
+    def __init__(self):
+        self.lines, self.joined, self.different = 0, set(), []
+
+    def hold(self, case, q, kept_lines, before, by_rules, told):
+        """The lines of one answer: those kept, of both readings, and of the program."""
+        self.lines += len(kept_lines)
+        if before != by_rules:
+            self.joined.add(case)
+        wrong = (kept_lines, before) if kept_lines != before else (by_rules, told)
+        if wrong[0] != wrong[1]:
+            self.different.append((q, *("\n".join(lines) for lines in wrong)))
+
+
 def replayed_items(asker, text):
-    """The kept answers against the program: (cases, lines, what differs)."""
-    cases, questions, wanted = cases_in(text), [], []
-    for on, table, lines, first in cases:
+    """The kept answers, the second reading and the program against each other."""
+    cases, questions, kept_lines = cases_in(text), [], []
+    for case, (on, table, lines, first) in enumerate(cases):
         number, r = items.base_of(table)
-        q = on_items.Question(on_items.WALK, r, table, number)
-        questions.append(asker.counted(q, asker.expected(q)))
-        wanted.append((on, lines))
+        questions.append(on_items.Question(on_items.WALK, r, table, number))
+        kept_lines.append((case, lines, on))
         for ty, answer in first.items():
             questions.append(on_items.Question(on_items.FIRST, r, table, number, ty=ty))
-            wanted.append((None, [answer]))
-    found, rest = asker.answers_in(questions, asker.answers_to(questions))
+            kept_lines.append((case, [answer], None))
+    by_rules = list(map(asker.expected, questions))
+    asked = list(map(asker.counted, questions, by_rules))
+    found, rest = asker.answers_in(asked, asker.answers_to(asked))
     assert not rest
-    different = []
-    for q, (on, lines), answer in zip(questions, wanted, found):
-        told = [first_told(answer)] if on is None else walk_told(on_items.lines_of(answer), on)
-        if told != lines:
-            different.append((q, "\n".join(lines), "\n".join(told)))
-    return len(cases), sum(len(lines) for _, lines in wanted), different
+    with reading.joined_by_instance():
+        before = list(map(asker.expected, questions))
+    held = Held()
+    for q, (case, lines, on), *answers in zip(asked, kept_lines, before, by_rules, found):
+        held.hold(case, q, lines, *(
+            [first_told(answer)] if on is None else walk_told(on_items.lines_of(answer), on) for answer in answers))
+    return Replayed(len(cases), held.lines, 0, len(held.joined), held.different)
 
 
 # Listings: both sides in the words of the listing, without counts.
@@ -214,8 +248,20 @@ def alike(ours, theirs):
     return theirs[0].split(" value ")[0] == before and theirs[1:len(ours)] == ours[1:]
 
 
+def flat(calls):
+    """The lines of all calls."""
+    return [line for call in calls for line in call]
+
+
+def read_listings(asker, of_records, questions):
+    """The listings of these walks, as the second reading has them."""
+    for q in questions:
+        answer = asker.expected(q)
+        yield flat(listing_told(answer, map(of_records.expected, value_questions(q, answer))))
+
+
 def replayed_parts(asker, text):
-    """The kept listings against the program: (cases, lines, parts, what differs)."""
+    """The kept listings, the second reading and the program against each other."""
     of_records, cases, questions = on_records.Records(), cases_in(text), []
     for case in cases:
         number, r = items.base_of(case.table)
@@ -225,10 +271,12 @@ def replayed_parts(asker, text):
     assert not rest
     asked = [value_questions(q, answer) for q, answer in zip(questions, found)]
     told = iter(of_records.answers_to([v for values in asked for v in values]).split("\n"))
-    different, lines = [], 0
-    for q, case, answer, values in zip(questions, cases, found, asked):
-        ours = [line for call in listing_told(answer, [next(told) for _ in values]) for line in call]
-        lines += len(case.lines)
-        if ours != case.lines:
-            different.append((q, "\n".join(case.lines), "\n".join(ours)))
-    return len(cases), lines, sum(line.startswith("part ") for case in cases for line in case.lines), different
+    ours = [flat(listing_told(answer, [next(told) for _ in values])) for answer, values in zip(found, asked)]
+    by_rules = list(read_listings(asker, of_records, questions))
+    with reading.joined_by_instance():
+        before = list(read_listings(asker, of_records, questions))
+    held = Held()
+    for case, (q, given, *lines) in enumerate(zip(questions, cases, before, by_rules, ours)):
+        held.hold(case, q, given.lines, *lines)
+    parts = sum(line.startswith("part ") for case in cases for line in case.lines)
+    return Replayed(len(cases), held.lines, parts, len(held.joined), held.different)

@@ -20,7 +20,9 @@ KEPT = os.path.join(TESTS, "witness_runs.txt")
 DUMPED = re.compile(r"^Dumping attribute .* \(0x([0-9a-f]+)\) from mft record (\d+) ", re.MULTILINE)
 RESIDENT = re.compile(r"^\tResident:\s+Yes$", re.MULTILINE)
 INSTANCE = re.compile(r"^\tAttribute instance:\s+(\d+) ", re.MULTILINE)
+NAME = re.compile(r"^\tAttribute name:\t\t '(.*)'$", re.MULTILINE)
 LOWEST = re.compile(r"^\tLowest VCN\s+(\d+) ", re.MULTILINE)
+HIGHEST = re.compile(r"^\tHighest VCN:\s+(\d+) ", re.MULTILINE)
 RUNS = re.compile(r"^\tRunlist:\tVCN\t\tLCN\t\tLength\n((?:\t\t\t.*\n)*)", re.MULTILINE)
 ROW = re.compile(r"\t\t\t0x([0-9a-f]+)\t+(0x[0-9a-f]+|<\w+>)\t+0x([0-9a-f]+)")
 HOLE, NOT_MAPPED = "<HOLE>", "<RL_NOT_MAPPED>"
@@ -40,6 +42,19 @@ PART = re.compile(r"part (\d+) (\d+) (\d+) (\d+) (\d+)")
 RUN = re.compile(r"(?:run (\d+)|hole) (\d+)")
 # and its other lines
 OTHERS = re.compile(r"record \d+ size \d+|end reads \d+|stopped \d+ reads \d+")
+
+
+class Attribute(NamedTuple):
+    """What ntfsinfo tells of an attribute: its record, type, name and instance, and where it is not resident its
+    VCNs."""
+
+    record: int
+    ty: int
+    name: str
+    instance: int
+    resident: bool
+    lowest: int
+    highest: int
 
 
 class Told(NamedTuple):
@@ -109,6 +124,19 @@ def told_by_ntfsinfo(text):
         key = int(head[2]), int(head[1], 16), int(INSTANCE.search(told)[1])
         assert key not in found, key
         found[key] = lowest, mapped(lowest, [(int(at, 16), start, int(length, 16)) for at, start, length in rows])
+    return found
+
+
+def attributes_by_ntfsinfo(text):
+    """The attributes in what `ntfsinfo -v` prints of a file."""
+    found, heads = [], list(DUMPED.finditer(text))
+    for head, next_head in zip(heads, [*heads[1:], None]):
+        told = text[head.end():next_head.start() if next_head else None]
+        name, resident = NAME.search(told), bool(RESIDENT.search(told))
+        vcns = (0, 0) if resident else [int(form.search(told)[1]) for form in (LOWEST, HIGHEST)]
+        found.append(Attribute(
+            int(head[2]), int(head[1], 16), name[1] if name else "", int(INSTANCE.search(told)[1]), resident, *vcns))
+    assert len({(a.record, a.ty, a.instance) for a in found}) == len(found), found
     return found
 
 

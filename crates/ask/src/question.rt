@@ -1,10 +1,12 @@
 //! Questions, as they come on standard input: a byte for what is asked, a byte for how many numbers come with it,
-//! each number as a byte for its tag and eight for its value, little-endian; then the bytes of the record and those
-//! of the table, as many as two of the numbers say. A number that does not come is 0. So a call that asks for more
-//! takes a new tag, behind the others, and no other question changes.
+//! each number as a byte for its tag and eight for its value, little-endian; then the bytes of the record, those of
+//! the table, and those that a key's name begins with, as many as three of the numbers say; the name's others are 0.
+//! A number that does not come is 0. So a call that asks for more takes a new tag, behind the others, and no other
+//! question changes.
 use fields::RecordNumber;
 use fields::bytes::{u16_at, u32_at, u64_at};
 use items::{Key, Rest, State};
+use list::MOST_NAME;
 use std::alloc::{AllocError, Global};
 use std::io;
 use std::io::{ErrorKind, Read};
@@ -45,16 +47,20 @@ const SUM: usize = 112;
 
 const RUN_BYTES: usize = 120;
 
-const NUMBERS: usize = 128;
+const UNITS: usize = 128;
+
+const NAME_BYTES: usize = 136;
+
+const NUMBERS: usize = 144;
 
 /// How many bytes the record and the table may have together.
 const ROOM: usize = 131_072;
 
 /// A question, for every call that there is: each reads what it needs. A state has the place as its raw place,
-/// the list and the key; `ty` and `instance` stand beside a key, since other calls ask for them too. `most` is
-/// how many calls a walk makes, or the room for parts; `buffer` the room for a listing's text. `last` and `sum` go
-/// from one run to the next, and `run_bytes` is how many bytes of a record hold runs. The record is, for an entry,
-/// the rest of a list, and for one run the run bytes. The kind is the byte that came: `main` has the kinds.
+/// the list and the key; `ty` stands beside a key, since other calls ask for it too, and `instance` is theirs alone.
+/// `most` is how many calls a walk makes, or the room for parts; `buffer` the room for a listing's text. `last` and
+/// `sum` go from one run to the next, and `run_bytes` is how many bytes of a record hold runs. The record is, for an
+/// entry, the rest of a list, and for one run the run bytes. The kind is the byte that came: `main` has the kinds.
 #[derive(Clone, Copy)]
 pub struct Question<'a> {
     pub kind: u8,
@@ -75,14 +81,23 @@ pub struct Question<'a> {
 }
 
 impl<'a> Question<'a> {
-    fn of(kind: u8, numbers: &[u8; NUMBERS], record: &'a [u8], table: &'a [u8]) -> Question<'a> {
+    fn of(
+        kind: u8,
+        numbers: &[u8; NUMBERS],
+        name: [u8; MOST_NAME],
+        record: &'a [u8],
+        table: &'a [u8],
+    ) -> Question<'a> {
         let ty = u32_at(numbers, TYPE);
-        let instance = u16_at(numbers, INSTANCE);
         let rest = Rest {
             from: u64_at(numbers, LIST_FROM) as usize,
             to: u64_at(numbers, LIST_TO) as usize,
         };
-        let key = Key { ty, instance };
+        let key = Key {
+            ty,
+            units: numbers[UNITS],
+            name,
+        };
         Question {
             kind,
             number: RecordNumber(u64_at(numbers, NUMBER)),
@@ -91,7 +106,7 @@ impl<'a> Question<'a> {
             list: if numbers[LIST] != 0 { Some(rest) } else { None },
             key: if numbers[KEY] != 0 { Some(key) } else { None },
             ty,
-            instance,
+            instance: u16_at(numbers, INSTANCE),
             most: u16_at(numbers, MOST),
             buffer: u64_at(numbers, BUFFER) as usize,
             last: u64_at(numbers, LAST),
@@ -132,8 +147,18 @@ fn numbers<R: Read>(input: &mut R, count: u8) -> io::Result<[u8; NUMBERS]> {
     Ok(given)
 }
 
+// A name that begins with as many bytes as come for it.
+fn name<R: Read>(input: &mut R, count: usize) -> io::Result<[u8; MOST_NAME]> {
+    let mut whole = [0u8; MOST_NAME];
+    let Some(given) = whole.get_mut(..count) else {
+        return Err(io::Error::from(ErrorKind::InvalidData));
+    };
+    input.read_exact(given)?;
+    Ok(whole)
+}
+
 /// The next question, its bytes put at the front of the buffer. An input that ends here is an error, and so is
-/// a question that is cut or has no room.
+/// a question that is cut, has no room, or has more bytes for a name than that has.
 pub fn read<'a, R: Read>(input: &mut R, space: &'a mut [u8]) -> io::Result<Question<'a>> {
     let mut head = [0u8; HEAD];
     input.read_exact(&mut head)?;
@@ -144,6 +169,7 @@ pub fn read<'a, R: Read>(input: &mut R, space: &'a mut [u8]) -> io::Result<Quest
         return Err(io::Error::from(ErrorKind::InvalidData));
     };
     input.read_exact(bytes)?;
+    let name = name(input, u64_at(&given, NAME_BYTES) as usize)?;
     let (record, table) = bytes.split_at(record);
-    Ok(Question::of(head[0], &given, record, table))
+    Ok(Question::of(head[0], &given, name, record, table))
 }

@@ -1,6 +1,6 @@
 //! Answers in words and decimal numbers.
 use fields::{Counted, Refusal};
-use items::{Item, Rest, State, Walked};
+use items::{Item, Key, Rest, State, Walked};
 use list::{Entry, Listed};
 use parts::Part;
 use record::{Attribute, FullHeader, RecordHeader, Span, Value, View};
@@ -215,13 +215,29 @@ impl Tell for Part {
     }
 }
 
+// All 510 bytes of the name are told, in hex, up to the last that is not 0; a dash where there is none.
+impl Tell for Key {
+    fn tell<W: Write>(&self, out: &mut W) -> io::Result<()> {
+        write!(out, "1 {} {} ", self.ty, self.units)?;
+        let Some(last) = self.name.iter().rposition(|b| *b != 0) else {
+            return out.write_all(b"-");
+        };
+        for b in &self.name[..=last] {
+            write!(out, "{b:02x}")?;
+        }
+        Ok(())
+    }
+}
+
+// A key that is not there is told as three zeros and a dash.
 impl Tell for State {
     fn tell<W: Write>(&self, out: &mut W) -> io::Result<()> {
         write!(out, "left {} ", self.raw)?;
         list(out, self.list)?;
-        match self.key {
-            Some(k) => write!(out, " 1 {} {}", k.ty, k.instance),
-            None => out.write_all(b" 0 0 0"),
+        out.write_all(b" ")?;
+        match &self.key {
+            Some(k) => k.tell(out),
+            None => out.write_all(b"0 0 0 -"),
         }
     }
 }

@@ -17,11 +17,12 @@ use Rattle.record.specs.Value.{list_in}
 use Rattle.record.specs.declared.layout.Attribute.{Attribute}
 use Rattle.record.specs.declared.layout.Span.{Span}
 use Rattle.items.specs.Read.{Read, own, entry, spot}
-use Rattle.items.specs.State.{list_at, state, lies_in, key_of}
-use Rattle.items.specs.Items.{Left, leaves, reading, item, entries_of, passed_over, sought_of, item_by}
+use Rattle.items.specs.State.{list_at, state, lies_in}
+use Rattle.items.specs.Key.{name_in, key_of, passed_over}
+use Rattle.items.specs.Items.{Left, leaves, reading, item, entries_of, sought_of, item_by}
 use Rattle.items.specs.Items.{by_entries, by_list, by_attributes, next_by, next_in, next_of}
 use Rattle.items.specs.declared.walk.Rest.{Rest}
-use Rattle.items.specs.declared.walk.Key.{Key}
+use Rattle.items.specs.declared.key.Key.{Key}
 use Rattle.items.specs.declared.walk.State.{State}
 use Rattle.items.specs.declared.walk.Item.{Item}
 use Rattle.bound.specs.Listing.{searched, BySearch, OfBase, From, Begun}
@@ -69,13 +70,14 @@ module _ (s : List ℕ) (n : RecordNumber) (look : RecordNumber → Option (List
   more : (rs : List Read) (l : Left) → Good l → Good (reading rs l)
   more rs l g = later rs l.reads l.answer l.left g
 
-  none-read : (raw from to : ℕ) (e : Entry) (a : Outcome Attribute) → (item_by raw from to e a).reads ≡ []
+  none-read : (raw from to : ℕ) (e : Entry) (key : Key) (a : Outcome Attribute)
+      → (item_by raw from to e key a).reads ≡ []
   unfolding item_by
-  none-read raw from to e (refuses r) = refl
-  none-read raw from to e (gives h) = both (λ (l : Left). l.reads ≡ []) h.resident _ _ refl refl
+  none-read raw from to e key (refuses r) = refl
+  none-read raw from to e key (gives h) = both (λ (l : Left). l.reads ≡ []) h.resident _ _ refl refl
 
   -- behind the entry and the search
-  module _ (raw from to : ℕ) (e : Entry) where
+  module _ (raw from to : ℕ) (e : Entry) (key : Key) where
     abbrev all-read : List Read → List Read
     all-read us = entry (spot raw from) e ∷ searched s n look e from ++ us
 
@@ -91,19 +93,19 @@ module _ (s : List ℕ) (n : RecordNumber) (look : RecordNumber → Option (List
     }
 
     found : (us : List Read) → us ≡ [] → (a : Outcome Attribute) → (sought_of s n look e from).answer ≡ a
-        → BegunBy (all-read us) (item_by raw from to e a).answer (item_by raw from to e a).left
+        → BegunBy (all-read us) (item_by raw from to e key a).answer (item_by raw from to e key a).left
     unfolding item_by by-search
     found us v (refuses r) q = inr (by-search us v (refuses r) q)
     found us v (gives h) q =
         both (λ (l : Left). BegunBy (all-read us) l.answer l.left) h.resident
         (leaves (gives (item e.file h None)) (state raw (Some (list_at (from + e.length) to)) None))
         (leaves (gives (item e.file h (Some (list_at from to))))
-        (state raw (Some (list_at (from + e.length) to)) (Some (key_of e))))
+        (state raw (Some (list_at (from + e.length) to)) (Some key)))
         (inr (by-search us v (gives h) q, refl), λ l q. absurd (cc)) (
           inr (by-search us v (gives h) q, refl),
           λ l q. let same : list_at from to ≡ l = cc in
               subst (λ (x : Rest). Begun (all-read us) (state raw (Some (list_at (from + e.length) to))
-              (Some (key_of e))) x) same
+              (Some key)) x) same
               (record { by = e; seen = head (entry (spot raw from) e) (searched s n look e from ++ us); left = refl }),
         )
 
@@ -115,12 +117,14 @@ module _ (s : List ℕ) (n : RecordNumber) (look : RecordNumber → Option (List
   over_entries raw to on c (refuses r ∷ es) o from key = inl o.0
   over_entries raw to on c (gives e ∷ es) o from key =
       let x = sought_of s n look e from in
+      let name = name_in s (list_at from to) e in
+      let i = item_by raw from to e (key_of e name) x.answer in
       let P = λ (l : Left). Good (reading (entry (spot raw from) e ∷ []) l) in
       both P (known_type e.ty) _ _
-      (both P (passed_over n key e) _ _
+      (both P (passed_over n key e name) _ _
       (more (entry (spot raw from) e ∷ []) (by_entries s n look on raw to es (from + e.length) key)
       (over_entries raw to on c es o.1 (from + e.length) key))
-      (found raw from to e (item_by raw from to e x.answer).reads (none-read raw from to e x.answer) x.answer refl))
+      (found raw from to e (key_of e name) i.reads (none-read raw from to e (key_of e name) x.answer) x.answer refl))
       (inl (of-base n UnknownType from (λ q. cc)))
 
   over_list : (raw : ℕ) (on : Option Key → Left) → ((key : Option Key) → Good (on key))

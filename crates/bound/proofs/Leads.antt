@@ -1,5 +1,5 @@
 -- Each part is the one that the entry at its place leads to.
-use Rattle.std.proofs.Common.{ℕ, ◌+◌, ◌-◌, ◌≡◌, List, [], ◌∷◌, ◌++◌, map, length, eqb, ltb, refl}
+use Rattle.std.proofs.Common.{ℕ, ◌+◌, ◌-◌, ◌≡◌, List, [], ◌∷◌, ◌++◌, map, length, ltb, refl}
 use Rattle.std.specs.Prelude.{Option, Some, None}
 use Rattle.std.specs.List.{AllByRecursion}
 use Rattle.fields.specs.Answer.{gives, refuses, ◌⟫◌, Outcome}
@@ -10,13 +10,14 @@ use Rattle.fields.proofs.Answers.{back}
 use Rattle.list.specs.declared.Entry.{Entry}
 use Rattle.record.specs.declared.layout.Attribute.{Attribute}
 use Rattle.items.specs.Lookup.{lookup_of}
-use Rattle.items.specs.State.{list_at, lies_in, key_of}
+use Rattle.items.specs.State.{list_at, lies_in}
+use Rattle.items.specs.Key.{name_in, key_of, continues}
 use Rattle.items.specs.Read.{Read, sought, joined}
 use Rattle.items.specs.Items.{entries_of, sought_of}
 use Rattle.items.specs.declared.walk.Rest.{Rest}
-use Rattle.items.specs.declared.walk.Key.{Key}
+use Rattle.items.specs.declared.key.Key.{Key}
 use Rattle.parts.specs.Part.{part_in, part_of}
-use Rattle.parts.specs.Parts.{Given, Parts, reading, giving, parts_by, parts_from, parts_in, parts_of}
+use Rattle.parts.specs.Parts.{Given, Parts, reading, giving, taking, parts_by, parts_from, parts_in, parts_of}
 use Rattle.parts.specs.declared.Part.{Part}
 use Rattle.bound.specs.Replay.{Fronts}
 use Rattle.bound.specs.Listing.{Leads}
@@ -78,32 +79,38 @@ module _ (s : List ℕ) (n : RecordNumber) (look : RecordNumber → Option (List
       )
   giving-led to from e t (refuses r) q p l = tt
 
+  -- an entry, where there was room for its part or not
+  taking-led : (to room from : ℕ) (e : Entry) → Fronts s n look (list_at from to) e → (p : Parts) → Led to p
+      → Led to (reading (joined from e ∷ []) (taking s n look room e from p))
+  taking-led to room from e t p l =
+      both (λ (p : Parts). Led to (reading (joined from e ∷ []) p)) (ltb 0 room) _ _
+      (giving-led to from e t (part_of s n look e from) refl p l) tt
+
   by-led : (to : ℕ) (key : Key) (room : ℕ) (es : List (Outcome Entry)) (from : ℕ) → es ≡ entries_of s n to from
-      → Led to (parts_by s n look key room es from)
+      → Led to (parts_by s n look key to room es from)
   unfolding parts_by
   by-led to key room [] from q = tt
   by-led to key room (refuses r ∷ es) from q = tt
   by-led to key room (gives e ∷ es) from q =
       let k = peel s n to from e es q in
-      let P = λ (p : Parts). Led to (reading (joined from e ∷ []) p) in
-      both P (eqb e.instance key.instance) _ _
-      (both P (known_type e.ty) _ _
-      (both P (eqb e.ty key.ty) _ _
-      (both P (ltb 0 room) _ _
-      (giving-led to from e k.stands
-      (part_of s n look e from) refl (parts_by s n look key (room - 1) es (from + e.length))
+      both (λ (p : Parts). Led to (reading (joined from e ∷ []) p))
+      (continues key e (name_in s (list_at from to) e)) _ _
+      (taking-led to room from e k.stands (parts_by s n look key to (room - 1) es (from + e.length))
       (by-led to key (room - 1) es (from + e.length) k.tail))
-      tt)
-      tt)
-      tt)
       tt
 
   from-led : (to room : ℕ) (es : List (Outcome Entry)) (from : ℕ) → es ≡ entries_of s n to from
-      → Led to (parts_from s n look room es from)
+      → Led to (parts_from s n look to room es from)
   unfolding parts_from
   from-led to room [] from q = tt
   from-led to room (refuses r ∷ es) from q = tt
-  from-led to room (gives e ∷ es) from q = by-led to (key_of e) room (gives e ∷ es) from q
+  from-led to room (gives e ∷ es) from q =
+      let k = peel s n to from e es q in
+      let key = key_of e (name_in s (list_at from to) e) in
+      both (λ (p : Parts). Led to (reading (joined from e ∷ []) p)) (known_type e.ty) _ _
+      (taking-led to room from e k.stands (parts_by s n look key to (room - 1) es (from + e.length))
+      (by-led to key (room - 1) es (from + e.length) k.tail))
+      tt
 
   pub list-led : (room : ℕ) (l : Rest) → Led l.to (parts_in s n look room (Some l))
   unfolding parts_in

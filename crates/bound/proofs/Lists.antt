@@ -19,11 +19,12 @@ use Rattle.record.specs.declared.layout.Span.{Span}
 use Rattle.record.proofs.Given.{of-step}
 use Rattle.record.proofs.Peel.{peel_raw}
 use Rattle.items.specs.Read.{Read, own, entry, sought, joined, Spot, spot}
-use Rattle.items.specs.State.{list_at, state, lies_in, key_of}
-use Rattle.items.specs.Items.{Left, entries_of, passed_over, sought_of, item_by, by_entries, by_list}
+use Rattle.items.specs.State.{list_at, state, lies_in}
+use Rattle.items.specs.Key.{name_in, key_of, passed_over}
+use Rattle.items.specs.Items.{Left, entries_of, sought_of, item_by, by_entries, by_list}
 use Rattle.items.specs.Items.{by_attributes, next_by, next_in, next_of}
 use Rattle.items.specs.declared.walk.Rest.{Rest}
-use Rattle.items.specs.declared.walk.Key.{Key}
+use Rattle.items.specs.declared.key.Key.{Key}
 use Rattle.items.specs.declared.walk.State.{State}
 use Rattle.items.proofs.Steps.{entry_moves}
 use Rattle.bound.specs.Listing.{own_of, called, Follow}
@@ -78,14 +79,14 @@ closed : (raw : ℕ) (key : Option Key) → Held (state raw None key) (state raw
 closed raw key = inr (refl, λ m q. absurd (cc))
 
 module _ (s : List ℕ) (n : RecordNumber) (look : RecordNumber → Option (List ℕ)) where
-  held-item : (raw from to : ℕ) (e : Entry) (key : Option Key) (a : Outcome Attribute)
-      → Held (state raw (Some (list_at from to)) key) (item_by raw from to e a).left
+  held-item : (raw from to : ℕ) (e : Entry) (key : Option Key) (k : Key) (a : Outcome Attribute)
+      → Held (state raw (Some (list_at from to)) key) (item_by raw from to e k a).left
   unfolding item_by
-  held-item raw from to e key (refuses r) = further raw to from (from + e.length) key None (omega arith)
-  held-item raw from to e key (gives h) =
+  held-item raw from to e key k (refuses r) = further raw to from (from + e.length) key None (omega arith)
+  held-item raw from to e key k (gives h) =
       both (λ (l : Left). Held (state raw (Some (list_at from to)) key) l.left) h.resident _ _
       (further raw to from (from + e.length) key None (omega arith))
-      (further raw to from (from + e.length) key (Some (key_of e)) (omega arith))
+      (further raw to from (from + e.length) key (Some k) (omega arith))
 
   held-entries : (raw to : ℕ) (on : Option Key → Left) → ((key : Option Key)
       → Held (state raw None key) (on key).left) → (es : List (Outcome Entry)) (from : ℕ) (key : Option Key)
@@ -96,10 +97,10 @@ module _ (s : List ℕ) (n : RecordNumber) (look : RecordNumber → Option (List
   held-entries raw to on c (gives e ∷ es) from key =
       let P = λ (l : Left). Held (state raw (Some (list_at from to)) key) l.left in
       both P (known_type e.ty) _ _
-      (both P (passed_over n key e) _ _
+      (both P (passed_over n key e (name_in s (list_at from to) e)) _ _
       (earlier raw to from (from + e.length) key (by_entries s n look on raw to es (from + e.length) key).left
       (omega arith) (held-entries raw to on c es (from + e.length) key))
-      (held-item raw from to e key (sought_of s n look e from).answer))
+      (held-item raw from to e key (key_of e (name_in s (list_at from to) e)) (sought_of s n look e from).answer))
       (further raw to from (from + e.length) key key (omega arith))
 
   held-list : (raw by : ℕ) → 16 ≤ by → (on : Option Key → Left)

@@ -20,11 +20,12 @@ use Rattle.list.specs.declared.Entry.{Entry}
 use Rattle.record.specs.Walk.{walk_from}
 use Rattle.record.specs.Search.{Searched}
 use Rattle.items.specs.Read.{Read, Spot, own, entry, sought, spot}
-use Rattle.items.specs.State.{list_at, state, agrees, key_of, lies_in}
-use Rattle.items.specs.Items.{Left, leaves, reading, item, entries_of, passed_over, sought_of, item_by, item_of}
+use Rattle.items.specs.State.{list_at, state, lies_in}
+use Rattle.items.specs.Key.{name_in, key_of, skips, passed_over}
+use Rattle.items.specs.Items.{Left, leaves, reading, item, entries_of, sought_of, item_by, item_of}
 use Rattle.items.specs.Items.{by_entries, by_list, by_attributes, next_by, next_in, next_of}
 use Rattle.items.specs.declared.walk.Rest.{Rest}
-use Rattle.items.specs.declared.walk.Key.{Key}
+use Rattle.items.specs.declared.key.Key.{Key}
 use Rattle.items.specs.declared.walk.State.{State}
 use Rattle.items.specs.declared.walk.Item.{Item}
 use Rattle.parts.specs.Parts.{parts_in, parts_of}
@@ -52,7 +53,7 @@ module _ (s : List ℕ) (n : RecordNumber) where
 
   -- where the entries end that the walk passes over by its key
   abbrev pub owed : Option Key → Rest → ℕ
-  owed key l = skip key (entries_of s n l.to l.from) l.from
+  owed key l = skip s l.to key (entries_of s n l.to l.from) l.from
 
   abbrev pub worth_at : ℕ → Option Key → Option Rest → ℕ
   worth_at raw key None = shut raw
@@ -159,17 +160,17 @@ module _ (s : List ℕ) (n : RecordNumber) where
 
         -- what the state behind it is worth, and where it stands
         worth-next : (key : Option Key) → worth (state raw (Some (list_at (from + e.length) to)) key) ≡ open_to raw to
-            (from + e.length) (skip key es (from + e.length))
+            (from + e.length) (skip s to key es (from + e.length))
         unfolding worth
         worth-next key = ap (λ (x : List (Outcome Entry)). open_to raw to (from + e.length)
-            (skip key x (from + e.length))) (sym tail)
+            (skip s to key x (from + e.length))) (sym tail)
 
         reached-next : (key : Option Key) → reached (state raw (Some (list_at (from + e.length) to)) key) ≡ spot raw
-            (skip key es (from + e.length))
+            (skip s to key es (from + e.length))
         unfolding reached
-        reached-next key = ap (λ (x : List (Outcome Entry)). spot raw (skip key x (from + e.length))) (sym tail)
+        reached-next key = ap (λ (x : List (Outcome Entry)). spot raw (skip s to key x (from + e.length))) (sym tail)
 
-        at-next : (key : Option Key) (p : ℕ) → p ≤ skip key es (from + e.length)
+        at-next : (key : Option Key) (p : ℕ) → p ≤ skip s to key es (from + e.length)
             → Before (spot raw p) (reached (state raw (Some (list_at (from + e.length) to)) key))
         at-next key p h = subst (Before (spot raw p)) (sym (reached-next key)) (here raw p _ h)
 
@@ -179,37 +180,40 @@ module _ (s : List ℕ) (n : RecordNumber) where
         unfolding open_to
         paid-by k few c g h = val-item _ _ _ _ _ _ _ k c few (le_refl _) x-step h
 
+        abbrev own_key : Key
+        own_key = key_of e (name_in s (list_at from to) e)
+
         -- an item with its parts
         parted : (lo : Spot) (k : ℕ) (f : RecordNumber) (h : Attribute) → k ≤ length s / 16
             → Before lo (spot raw from) → gives e ∷ es ≡ entries_of s n to from
             → Gave (open_to raw to from from) lo (k + 1) (item f h (Some (list_at from to)))
-            (state raw (Some (list_at (from + e.length) to)) (Some (key_of e)))
+            (state raw (Some (list_at (from + e.length) to)) (Some own_key))
         parted lo k f h few b q =
             let t = begun s n look z to (length s - raw) room from e es q in
             record {
               paid = subst (λ (x : ℕ). k + 1 + length (parts_of s n look room (Some (list_at from to))).reads + x ≤
-                  open_to raw to from from) (sym (worth-next (Some (key_of e))))
+                  open_to raw to from from) (sym (worth-next (Some own_key)))
                   (paid-by k few (length (parts_of s n look room (Some (list_at from to))).reads)
-                  (skip (Some (key_of e)) es (from + e.length)) t.paid);
+                  (skip s to (Some own_key) es (from + e.length)) t.paid);
               some = omega arith;
               begin = from;
               rises = b;
-              end = skip (Some (key_of e)) es (from + e.length);
-              ends = at-next (Some (key_of e)) _ (le_refl _);
-              order = omega (arith, skip-ge (Some (key_of e)) es (from + e.length));
+              end = skip s to (Some own_key) es (from + e.length);
+              ends = at-next (Some own_key) _ (le_refl _);
+              order = omega (arith, skip-ge s to (Some own_key) es (from + e.length));
               within = t.within;
             }
 
         -- the entry was looked up: nothing is owed at it
         looked : (lo : Spot) (k : ℕ) (a : Outcome Attribute) → k ≤ length s / 16 → Before lo (spot raw from)
             → gives e ∷ es ≡ entries_of s n to from
-            → Answered (open_to raw to from from) lo (k + 1) (item_by raw from to e a).answer
-            (item_by raw from to e a).left
+            → Answered (open_to raw to from from) lo (k + 1) (item_by raw from to e own_key a).answer
+            (item_by raw from to e own_key a).left
         unfolding item_by
         looked lo k (refuses r) h b q = some-entry from k h
         looked lo k (gives x) h b q =
             both (λ (l : Left). Answered (open_to raw to from from) lo (k + 1) l.answer l.left) x.resident _ _
-            (let g = skip-ge None es (from + e.length) in
+            (let g = skip-ge s to None es (from + e.length) in
             let w = state raw (Some (list_at (from + e.length) to)) None in
             alone (open_to raw to from from) lo (k + 1) e.file x w (omega arith)
             (subst (λ (y : ℕ). k + 1 + y ≤ open_to raw to from from) (sym (worth-next None))
@@ -218,51 +222,55 @@ module _ (s : List ℕ) (n : RecordNumber) where
             (at-next None from (omega arith)) b)
             (parted lo k e.file x h b q)
 
-      not-agreed : (key : Option Key) (e : Entry) → passed_over n key e ≡ false → agrees key e ≡ false
+      not-skipped : (key : Option Key) (e : Entry) (name : List ℕ) → passed_over n key e name ≡ false
+          → skips key e name ≡ false
       unfolding passed_over
-      not-agreed key e t = either_no (eqb e.file.0 n.0) (agrees key e) t
+      not-skipped key e name t = either_no (eqb e.file.0 n.0) (skips key e name) t
 
-      no-reads : (from : ℕ) (e : Entry) (a : Outcome Attribute) → (item_by raw from to e a).reads ≡ []
+      no-reads : (from : ℕ) (e : Entry) (k : Key) (a : Outcome Attribute) → (item_by raw from to e k a).reads ≡ []
       unfolding item_by
-      no-reads from e (refuses r) = refl
-      no-reads from e (gives h) = both (λ (l : Left). l.reads ≡ []) h.resident _ _ refl refl
+      no-reads from e k (refuses r) = refl
+      no-reads from e k (gives h) = both (λ (l : Left). l.reads ≡ []) h.resident _ _ refl refl
 
-      sought-good : (c : ℕ) (lo : Spot) (from : ℕ) (e : Entry) (x : Searched)
-          → Answered c lo (length x.read + 1) (item_by raw from to e x.answer).answer
-          (item_by raw from to e x.answer).left
-          → Good c lo (reading (entry (spot raw from) e ∷ []) (item_of raw from to e x))
-      sought-good c lo from e x g =
-          let l = item_by raw from to e x.answer in
-          let i = ap (λ (rs : List Read). length rs) (no-reads from e x.answer) in
-          let j : length x.read + 1 ≡ length (reading (entry (spot raw from) e ∷ []) (item_of raw from to e x)).reads
+      sought-good : (c : ℕ) (lo : Spot) (from : ℕ) (e : Entry) (k : Key) (x : Searched)
+          → Answered c lo (length x.read + 1) (item_by raw from to e k x.answer).answer
+          (item_by raw from to e k x.answer).left
+          → Good c lo (reading (entry (spot raw from) e ∷ []) (item_of raw from to e k x))
+      sought-good c lo from e k x g =
+          let l = item_by raw from to e k x.answer in
+          let i = ap (λ (rs : List Read). length rs) (no-reads from e k x.answer) in
+          let j : length x.read + 1 ≡ length (reading (entry (spot raw from) e ∷ []) (item_of raw from to e k x)).reads
           =
           omega (arith, length-append (map (sought e.file) x.read) l.reads, length-map x.read (sought e.file)) in
           subst (λ (y : ℕ). Answered c lo y l.answer l.left) j g
 
       -- over what the entries are
       entries-good : (es : List (Outcome Entry)) (from : ℕ) (key : Option Key) (lo : Spot)
-          → es ≡ entries_of s n to from → Before lo (spot raw (skip key es from))
-          → Good (open_to raw to from (skip key es from)) lo (by_entries s n look on raw to es from key)
+          → es ≡ entries_of s n to from → Before lo (spot raw (skip s to key es from))
+          → Good (open_to raw to from (skip s to key es from)) lo (by_entries s n look on raw to es from key)
       unfolding by_entries
-      entries-good [] from key lo q b = closing from (skip key [] from) key lo b
+      entries-good [] from key lo q b = closing from (skip s to key [] from) key lo b
       entries-good (refuses r ∷ es) from key lo q b = zero-le
       entries-good (gives e ∷ es) from key lo q b =
           let k = peel s n to from e es q in
-          let g = skip key (gives e ∷ es) from in
+          let name = name_in s (list_at from to) e in
+          let g = skip s to key (gives e ∷ es) from in
           let P = λ (l : Left). Good (open_to raw to from g) lo (reading (entry (spot raw from) e ∷ []) l) in
           both P (known_type e.ty) _ _
-          (by-test P (passed_over n key e) _ _
-          (λ _. more (open_to raw to (from + e.length) (skip key es (from + e.length))) (open_to raw to from g) lo lo
+          (by-test P (passed_over n key e name) _ _
+          (λ _. more (open_to raw to (from + e.length) (skip s to key es (from + e.length)))
+          (open_to raw to from g) lo lo
           (entry (spot raw from) e ∷ []) (by_entries s n look on raw to es (from + e.length) key)
           (entries-good es (from + e.length) key lo k.tail (before-trans lo (spot raw g)
-          (spot raw (skip key es (from + e.length))) b (here raw g _ (skip-on key e es from))))
-          (one-less e es from k.least k.most k.tail g (skip key es (from + e.length)) 0 zero-le
-          (skip-on key e es from))
+          (spot raw (skip s to key es (from + e.length))) b (here raw g _ (skip-on s to key e es from))))
+          (one-less e es from k.least k.most k.tail g (skip s to key es (from + e.length)) 0 zero-le
+          (skip-on s to key e es from))
           (inr (refl, le_refl _)))
-          (λ t. let o = skip-no key e es from (not-agreed key e t) in
+          (λ t. let o = skip-no s to key e es from (not-skipped key e name t) in
           subst (λ (x : ℕ). Before lo (spot raw x) → Good (open_to raw to from x) lo
-          (reading (entry (spot raw from) e ∷ []) (item_of raw from to e (sought_of s n look e from)))) (sym o)
-          (λ c. sought-good (open_to raw to from from) lo from e (sought_of s n look e from)
+          (reading (entry (spot raw from) e ∷ [])
+          (item_of raw from to e (key_of e name) (sought_of s n look e from)))) (sym o)
+          (λ c. sought-good (open_to raw to from from) lo from e (key_of e name) (sought_of s n look e from)
           (looked e es from k.least k.most k.tail lo (length (sought_of s n look e from).read)
           (sought_of s n look e from).answer (omega (arith, few s n look z e from)) c q)) b))
           (some-entry e es from k.least k.most k.tail g 0 zero-le)
@@ -294,13 +302,14 @@ module _ (s : List ℕ) (n : RecordNumber) where
       unfolding by_list
       lists-good on ih key lo l (refuses r) q = one-raw
       lists-good on ih key lo l (gives p) q =
-          let g = skip key (entries_of s n (p.from + p.bytes) p.from) p.from in
+          let g = skip s (p.from + p.bytes) key (entries_of s n (p.from + p.bytes) p.from) p.from in
           more (open_to (raw + h.length) (p.from + p.bytes) p.from g) (shut raw) lo lo (own h ∷ [])
           (by_entries s n look on (raw + h.length) (p.from + p.bytes)
           (entries_of s n (p.from + p.bytes) p.from) p.from key)
           (entries-good (raw + h.length) (p.from + p.bytes) on ih
           (entries_of s n (p.from + p.bytes) p.from) p.from key lo refl (inl (omega arith)))
-          (raw-opens p g (list-lies s n h inside p q).short (skip-ge key _ p.from)) (inr (refl, le_refl _))
+          (raw-opens p g (list-lies s n h inside p q).short (skip-ge s (p.from + p.bytes) key _ p.from))
+          (inr (refl, le_refl _))
 
       gives-good : (key : Option Key) (lo : Spot) → lo.list ≤ raw
           → Good (shut raw) lo (reading (own h ∷ []) (leaves (gives (item n h None))

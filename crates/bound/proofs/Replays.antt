@@ -19,18 +19,19 @@ use Rattle.record.specs.Walk.{walk_from, attributes_of}
 use Rattle.record.specs.Search.{Searched, behind_one, find_in}
 use Rattle.items.specs.Lookup.{opened_as, held_by, lookup_of}
 use Rattle.items.specs.Read.{Read, own, entry, sought, joined, spot}
-use Rattle.items.specs.State.{list_at, state, lies_in, key_of}
-use Rattle.items.specs.Items.{Left, leaves, reading, item, entries_of, passed_over, found_in, sought_of, item_by}
+use Rattle.items.specs.State.{list_at, state, lies_in}
+use Rattle.items.specs.Key.{name_in, key_of, continues, passed_over}
+use Rattle.items.specs.Items.{Left, leaves, reading, item, entries_of, found_in, sought_of, item_by}
 use Rattle.items.specs.Items.{item_of, by_entries, by_list, by_attributes, next_by, next_in, next_of}
 use Rattle.items.specs.declared.walk.Rest.{Rest}
-use Rattle.items.specs.declared.walk.Key.{Key}
+use Rattle.items.specs.declared.key.Key.{Key}
 use Rattle.items.specs.declared.walk.State.{State}
 use Rattle.items.specs.declared.walk.Item.{Item}
 use Rattle.parts.specs.Part.{part_of}
 use Rattle.parts.specs.Parts as parts
-use Rattle.parts.specs.Parts.{Parts, parts_by, parts_from, parts_in, parts_of, giving, stops}
+use Rattle.parts.specs.Parts.{Parts, taking, parts_by, parts_from, parts_in, parts_of, giving}
 use Rattle.parts.specs.declared.Part.{Part}
-use Rattle.bound.specs.Replay.{Search, search, Heads, heads, no_list, opened, begins, Done, Stands, behind}
+use Rattle.bound.specs.Replay.{Search, search, Heads, heads, no_list, opened, begins, Done, Fronts, Stands, behind}
 use Rattle.bound.specs.Replay.{Replay, onward, Holds, Keeps}
 use Rattle.record.proofs.Peel.{peel_raw}
 use Rattle.items.proofs.Peel.{peel}
@@ -144,14 +145,14 @@ module _ (s : List ℕ) (n : RecordNumber) (look : RecordNumber → Option (List
 
   module _ (raw to : ℕ) (on : Option Key → Left) (closes : (key : Option Key) (list : Rest) (x : Option Search)
       (ps : Rest) → Done s n look list → Told (heads raw list x ps) (on key)) where
-    item-left : (from : ℕ) (e : Entry) (x : Option Search) (a : Outcome Attribute)
-        → Told (heads raw (list_at (from + e.length) to) x (list_at from to)) (item_by raw from to e a)
+    item-left : (from : ℕ) (e : Entry) (key : Key) (x : Option Search) (a : Outcome Attribute)
+        → Told (heads raw (list_at (from + e.length) to) x (list_at from to)) (item_by raw from to e key a)
     unfolding item_by
-    item-left from e x (refuses r) = record { replay = tt; keeps = record { raw = refl; list = refl }; begin = tt }
-    item-left from e x (gives h) =
+    item-left from e key x (refuses r) = record { replay = tt; keeps = record { raw = refl; list = refl }; begin = tt }
+    item-left from e key x (gives h) =
         let v = leaves (gives (item e.file h None)) (state raw (Some (list_at (from + e.length) to)) None) in
         let u = leaves (gives (item e.file h (Some (list_at from to))))
-        (state raw (Some (list_at (from + e.length) to)) (Some (key_of e))) in
+        (state raw (Some (list_at (from + e.length) to)) (Some key)) in
         both (Told (heads raw (list_at (from + e.length) to) x (list_at from to))) h.resident v u
         (record { replay = tt; keeps = record { raw = refl; list = refl }; begin = tt })
         (record { replay = tt; keeps = record { raw = refl; list = refl }; begin = refl })
@@ -169,21 +170,22 @@ module _ (s : List ℕ) (n : RecordNumber) (look : RecordNumber → Option (List
     entries-told (gives e ∷ es) from key x ps q =
         let k = peel s n to from e es q in
         let P = λ (l : Left). Told (heads raw (list_at from to) x ps) (reading (entry (spot raw from) e ∷ []) l) in
+        let name = name_in s (list_at from to) e in
         let y = begins (lookup_of s n look e.file from) in
         let list = list_at (from + e.length) to in
         let last = leaves (refuses (refusal UnknownType n from)) (state raw (Some list) key) in
         both P (known_type e.ty) _ _
-        (both P (passed_over n key e) _ _
+        (both P (passed_over n key e name) _ _
         (more (heads raw (list_at from to) x ps) (entry (spot raw from) e)
         (by_entries s n look on raw to es (from + e.length) key) (refl, k.stands)
         (entries-told es (from + e.length) key y (list_at from to) k.tail))
         (more (heads raw (list_at from to) x ps) (entry (spot raw from) e)
-        (item_of raw from to e (sought_of s n look e from)) (refl, k.stands)
+        (item_of raw from to e (key_of e name) (sought_of s n look e from)) (refl, k.stands)
         (after-seek raw (list_at (from + e.length) to) (list_at from to) y
         (map (sought e.file) (sought_of s n look e from).read)
         (sought-told raw (list_at (from + e.length) to) (list_at from to) e from)
-        (item_by raw from to e (sought_of s n look e from).answer)
-        (λ v. item-left from e v (sought_of s n look e from).answer))))
+        (item_by raw from to e (key_of e name) (sought_of s n look e from).answer)
+        (λ v. item-left from e (key_of e name) v (sought_of s n look e from).answer))))
         (more (heads raw (list_at from to) x ps) (entry (spot raw from) e) last (refl, k.stands)
         (record { replay = tt; keeps = record { raw = refl; list = refl }; begin = tt }))
 
@@ -266,59 +268,75 @@ module _ (s : List ℕ) (n : RecordNumber) (look : RecordNumber → Option (List
     same = onward-append (heads raw list x ps) rs us ∙ ap (λ (z : Heads). onward s n look z us) e ∙ a.same;
   }
 
-  module _ (raw : ℕ) (list : Rest) (to : ℕ) (key : Key) where
+  module _ (raw : ℕ) (list : Rest) (to : ℕ) where
     giving-told : (from : ℕ) (ps : Rest) (x : Option Search) (a : Outcome Part) (p : Parts)
         → Aside raw list x ps p.reads → Aside raw list x ps (giving from a p).reads
     unfolding giving
     giving-told from ps x (gives v) p t = t
     giving-told from ps x (refuses r) p t = nothing raw list x ps
 
-    parts-told : (room : ℕ) (es : List (Outcome Entry)) (from : ℕ) (x : Option Search) → es ≡ entries_of s n to from
-        → Aside raw list x (list_at from to) (parts_by s n look key room es from).reads
-    unfolding parts_by
-    parts-told room [] from x q = nothing raw list x (list_at from to)
-    parts-told room (refuses r ∷ es) from x q = nothing raw list x (list_at from to)
-    parts-told room (gives e ∷ es) from x q =
-        let k = peel s n to from e es q in
-        let y = begins (lookup_of s n look e.file from) in
-        let f = sought-told raw list (list_at (from + e.length) to) e from in
-        let P = λ (p : Parts). Aside raw list x (list_at from to) (parts.reading (joined from e ∷ []) p).reads in
-        let one = λ (us : List Read). λ (a : Aside raw list y (list_at (from + e.length) to) us).
-        aside-more raw list (list_at from to) (list_at (from + e.length) to) x y (joined from e ∷ []) us
-        ((refl, k.stands), tt) refl a in
-        let none = one [] (nothing raw list y (list_at (from + e.length) to)) in
-        both P (eqb e.instance key.instance) _ _
-        (both P (known_type e.ty) _ _
-        (both P (eqb e.ty key.ty) _ _
-        (both P (ltb 0 room) _ _
-        (one (map (sought e.file) (sought_of s n look e from).read ++
-        (giving from (part_of s n look e from) (parts_by s n look key (room - 1) es (from + e.length))).reads)
-        (aside-more raw list (list_at (from + e.length) to) (list_at (from + e.length) to) y f.search_left
-        (map (sought e.file) (sought_of s n look e from).read)
-        (giving from (part_of s n look e from) (parts_by s n look key (room - 1) es (from + e.length))).reads
-        f.replay f.same
-        (giving-told from (list_at (from + e.length) to) f.search_left (part_of s n look e from)
-        (parts_by s n look key (room - 1) es (from + e.length))
-        (parts-told (room - 1) es (from + e.length) f.search_left k.tail))))
-        none)
-        none)
-        none)
-        none
+    -- an entry, and what was read behind it
+    joined-told : (from : ℕ) (x : Option Search) (e : Entry) → Fronts s n look (list_at from to) e → (us : List Read)
+        → Aside raw list (begins (lookup_of s n look e.file from)) (list_at (from + e.length) to) us
+        → Aside raw list x (list_at from to) (joined from e ∷ us)
+    joined-told from x e f us a =
+        aside-more raw list (list_at from to) (list_at (from + e.length) to) x
+        (begins (lookup_of s n look e.file from)) (joined from e ∷ []) us ((refl, f), tt) refl a
 
-  from-told : (raw : ℕ) (list : Rest) (x : Option Search) (to room : ℕ) (es : List (Outcome Entry)) (from : ℕ)
-      → es ≡ entries_of s n to from → Aside raw list x (list_at from to) (parts_from s n look room es from).reads
-  unfolding parts_from
-  from-told raw list x to room [] from q = nothing raw list x (list_at from to)
-  from-told raw list x to room (refuses r ∷ es) from q = nothing raw list x (list_at from to)
-  from-told raw list x to room (gives e ∷ es) from q = parts-told raw list to (key_of e) room (gives e ∷ es) from x q
+    -- an entry, where there was room for its part or not
+    taking-told : (room from : ℕ) (x : Option Search) (e : Entry) → Fronts s n look (list_at from to) e → (p : Parts)
+        → ((y : Option Search) → Aside raw list y (list_at (from + e.length) to) p.reads)
+        → Aside raw list x (list_at from to) (parts.reading (joined from e ∷ []) (taking s n look room e from p)).reads
+    taking-told room from x e f p t =
+        let y = begins (lookup_of s n look e.file from) in
+        let k = sought-told raw list (list_at (from + e.length) to) e from in
+        both (λ (p : Parts). Aside raw list x (list_at from to) (parts.reading (joined from e ∷ []) p).reads)
+        (ltb 0 room) _ _
+        (joined-told from x e f
+        (map (sought e.file) (sought_of s n look e from).read ++ (giving from (part_of s n look e from) p).reads)
+        (aside-more raw list (list_at (from + e.length) to) (list_at (from + e.length) to) y k.search_left
+        (map (sought e.file) (sought_of s n look e from).read) (giving from (part_of s n look e from) p).reads
+        k.replay k.same
+        (giving-told from (list_at (from + e.length) to) k.search_left (part_of s n look e from) p
+        (t k.search_left))))
+        (joined-told from x e f [] (nothing raw list y (list_at (from + e.length) to)))
+
+    parts-told : (key : Key) (room : ℕ) (es : List (Outcome Entry)) (from : ℕ) (x : Option Search)
+        → es ≡ entries_of s n to from
+        → Aside raw list x (list_at from to) (parts_by s n look key to room es from).reads
+    unfolding parts_by
+    parts-told key room [] from x q = nothing raw list x (list_at from to)
+    parts-told key room (refuses r ∷ es) from x q = nothing raw list x (list_at from to)
+    parts-told key room (gives e ∷ es) from x q =
+        let k = peel s n to from e es q in
+        both (λ (p : Parts). Aside raw list x (list_at from to) (parts.reading (joined from e ∷ []) p).reads)
+        (continues key e (name_in s (list_at from to) e)) _ _
+        (taking-told room from x e k.stands (parts_by s n look key to (room - 1) es (from + e.length))
+        (λ y. parts-told key (room - 1) es (from + e.length) y k.tail))
+        (joined-told from x e k.stands [] (nothing raw list _ (list_at (from + e.length) to)))
+
+    from-told : (room : ℕ) (es : List (Outcome Entry)) (from : ℕ) (x : Option Search) → es ≡ entries_of s n to from
+        → Aside raw list x (list_at from to) (parts_from s n look to room es from).reads
+    unfolding parts_from
+    from-told room [] from x q = nothing raw list x (list_at from to)
+    from-told room (refuses r ∷ es) from x q = nothing raw list x (list_at from to)
+    from-told room (gives e ∷ es) from x q =
+        let k = peel s n to from e es q in
+        let key = key_of e (name_in s (list_at from to) e) in
+        both (λ (p : Parts). Aside raw list x (list_at from to) (parts.reading (joined from e ∷ []) p).reads)
+        (known_type e.ty) _ _
+        (taking-told room from x e k.stands (parts_by s n look key to (room - 1) es (from + e.length))
+        (λ y. parts-told key (room - 1) es (from + e.length) y k.tail))
+        (joined-told from x e k.stands [] (nothing raw list _ (list_at (from + e.length) to)))
 
   in-told : (raw : ℕ) (list : Rest) (x : Option Search) (ps : Rest) (room : ℕ) (o : Option Rest)
       → IfSome o (λ l. ps ≡ l) → Aside raw list x ps (parts_in s n look room o).reads
   unfolding parts_in
   in-told raw list x ps room None e = nothing raw list x ps
   in-told raw list x ps room (Some l) e =
-      subst (λ (m : Rest). Aside raw list x m (parts_from s n look room (entries_of s n l.to l.from) l.from).reads)
-      (sym e) (from-told raw list x l.to room (entries_of s n l.to l.from) l.from refl)
+      subst
+      (λ (m : Rest). Aside raw list x m (parts_from s n look l.to room (entries_of s n l.to l.from) l.from).reads)
+      (sym e) (from-told raw list l.to room (entries_of s n l.to l.from) l.from x refl)
 
   pub asked-told : (h : Heads) (room : ℕ) (o : Option Rest) → IfSome o (λ l. h.parts ≡ l)
       → Aside h.raw h.list h.search h.parts (parts_of s n look room o).reads

@@ -1,5 +1,5 @@
 -- A parts call reads on until no more entry is given, or an entry ends them, or one is refused.
-use Rattle.std.proofs.Common.{ℕ, ◌+◌, ◌-◌, ◌≡◌, List, [], ◌∷◌, ◌++◌, map, eqb, ltb}
+use Rattle.std.proofs.Common.{ℕ, ◌+◌, ◌-◌, ◌≡◌, List, [], ◌∷◌, ◌++◌, map, ltb}
 use Rattle.std.proofs.Common.{refl, sym, ap, subst, ◌∙◌, append_assoc}
 use mathlib.Core.Logic.{inl, inr}
 use Rattle.std.proofs.lemmas.List.{append-nil}
@@ -7,17 +7,19 @@ use Rattle.std.specs.Prelude.{Option, Some}
 use Rattle.fields.specs.Answer.{gives, refuses, Outcome}
 use Rattle.fields.specs.Known.{known_type}
 use Rattle.fields.specs.declared.RecordNumber.{RecordNumber}
+use Rattle.fields.proofs.Cases.{both}
 use Rattle.list.specs.declared.Entry.{Entry}
 use Rattle.record.specs.declared.layout.Attribute.{Attribute}
-use Rattle.items.specs.State.{list_at, key_of}
+use Rattle.items.specs.State.{list_at}
+use Rattle.items.specs.Key.{name_in, key_of, continues}
 use Rattle.items.specs.Read.{Read, sought, joined}
 use Rattle.items.specs.Items.{entries_of, sought_of}
 use Rattle.items.specs.declared.walk.Rest.{Rest}
-use Rattle.items.specs.declared.walk.Key.{Key}
+use Rattle.items.specs.declared.key.Key.{Key}
 use Rattle.items.proofs.Steps.{first_entry}
 use Rattle.items.proofs.Peel.{peel}
 use Rattle.parts.specs.Part.{part_of}
-use Rattle.parts.specs.Parts.{Parts, reading, giving, parts_by, parts_from, parts_in}
+use Rattle.parts.specs.Parts.{Parts, reading, giving, taking, parts_by, parts_from, parts_in}
 use Rattle.parts.specs.declared.Part.{Part}
 use Rattle.bound.specs.Replay.{Fronts}
 use Rattle.bound.specs.Listing.{searched, parts_left, Stopped, by_list, by_entry, by_part, EveryPart}
@@ -68,34 +70,41 @@ module _ (s : List ℕ) (n : RecordNumber) (look : RecordNumber → Option (List
     giving-ended (gives v) q p t = behind p t
     giving-ended (refuses r) q p t = missing (refuses r) (λ v g. let d = sym q ∙ g in absurd (cc))
 
+  -- an entry, where there was room for its part or not
+  taking-ended : (to room from : ℕ) (e : Entry) (p : Parts) → Ended (list_at (from + e.length) to) p
+      → Ended (list_at from to) (reading (joined from e ∷ []) (taking s n look room e from p))
+  taking-ended to room from e p t =
+      both (λ (p : Parts). Ended (list_at from to) (reading (joined from e ∷ []) p)) (ltb 0 room) _ _
+      (giving-ended to from e (part_of s n look e from) refl p t)
+      (by_entry [] from e refl (inl refl))
+
   by-ended : (to : ℕ) (key : Key) (room : ℕ) (es : List (Outcome Entry)) (from : ℕ) → es ≡ entries_of s n to from
-      → Ended (list_at from to) (parts_by s n look key room es from)
+      → Ended (list_at from to) (parts_by s n look key to room es from)
   unfolding parts_by
   by-ended to key room [] from q = by_list (none-given to from [] q (λ e xs d. absurd (cc)))
   by-ended to key room (refuses r ∷ es) from q =
       by_list (none-given to from (refuses r ∷ es) q (λ e xs d. absurd (cc)))
   by-ended to key room (gives e ∷ es) from q =
       let k = peel s n to from e es q in
-      let P = λ (p : Parts). Ended (list_at from to) (reading (joined from e ∷ []) p) in
-      by-test P (eqb e.instance key.instance) _ _
-      (λ _. by-test P (known_type e.ty) _ _
-      (λ _. by-test P (eqb e.ty key.ty) _ _
-      (λ _. by-test P (ltb 0 room) _ _
-      (λ _. giving-ended to from e (part_of s n look e from) refl
-      (parts_by s n look key (room - 1) es (from + e.length))
+      both (λ (p : Parts). Ended (list_at from to) (reading (joined from e ∷ []) p))
+      (continues key e (name_in s (list_at from to) e)) _ _
+      (taking-ended to room from e (parts_by s n look key to (room - 1) es (from + e.length))
       (by-ended to key (room - 1) es (from + e.length) k.tail))
-      (λ _. by_entry [] from e refl (inl refl)))
-      (λ _. by_entry [] from e refl tt))
-      (λ u. by_entry [] from e refl (inr (u, refl))))
-      (λ _. by_entry [] from e refl tt)
+      (by_entry [] from e refl tt)
 
   from-ended : (to room : ℕ) (es : List (Outcome Entry)) (from : ℕ) → es ≡ entries_of s n to from
-      → Ended (list_at from to) (parts_from s n look room es from)
+      → Ended (list_at from to) (parts_from s n look to room es from)
   unfolding parts_from
   from-ended to room [] from q = by_list (none-given to from [] q (λ e xs d. absurd (cc)))
   from-ended to room (refuses r ∷ es) from q =
       by_list (none-given to from (refuses r ∷ es) q (λ e xs d. absurd (cc)))
-  from-ended to room (gives e ∷ es) from q = by-ended to (key_of e) room (gives e ∷ es) from q
+  from-ended to room (gives e ∷ es) from q =
+      let k = peel s n to from e es q in
+      let key = key_of e (name_in s (list_at from to) e) in
+      by-test (λ (p : Parts). Ended (list_at from to) (reading (joined from e ∷ []) p)) (known_type e.ty) _ _
+      (λ _. taking-ended to room from e (parts_by s n look key to (room - 1) es (from + e.length))
+      (by-ended to key (room - 1) es (from + e.length) k.tail))
+      (λ u. by_entry [] from e refl (inr (u, refl)))
 
   list-ended : (room : ℕ) (l : Rest) → Ended l (parts_in s n look room (Some l))
   unfolding parts_in

@@ -21,13 +21,14 @@ use Rattle.record.specs.declared.layout.Span.{Span}
 use Rattle.record.proofs.Given.{of-step}
 use Rattle.record.proofs.Peel.{peel_raw}
 use Rattle.record.proofs.Searches.{found-stands}
-use Rattle.items.specs.State.{list_at, state, rest_of, lies_in, key_of}
+use Rattle.items.specs.State.{list_at, state, rest_of, lies_in}
 use Rattle.items.specs.Lookup.{opened_as, held_by, lookup_of}
-use Rattle.items.specs.Items.{Left, leaves, item, entries_of, passed_over, found_in, sought_of, item_by, by_entries}
+use Rattle.items.specs.Key.{name_in, key_of, passed_over}
+use Rattle.items.specs.Items.{Left, leaves, item, entries_of, found_in, sought_of, item_by, by_entries}
 use Rattle.items.specs.Items.{by_list, by_attributes, next_by, next_in, next_of}
 use Rattle.items.specs.Laws.{OwnItem, EntryItem, FoundAgain, ItemsCome, ItemsAreFoundAgain}
 use Rattle.items.specs.declared.walk.Rest.{Rest}
-use Rattle.items.specs.declared.walk.Key.{Key}
+use Rattle.items.specs.declared.key.Key.{Key}
 use Rattle.items.specs.declared.walk.State.{State}
 use Rattle.items.specs.declared.walk.Item.{Item}
 use Rattle.items.proofs.Opened.{opened_file}
@@ -44,11 +45,12 @@ module _ (s : List ℕ) (n : RecordNumber) (look : RecordNumber → Option (List
   Came : Left → Type 0
   Came l = (i : Item) → l.answer ≡ gives i → Comes i
 
-  by-item : (raw : ℕ) (l : Rest) (e : Entry) → entry_of (rest_of s l) n l.from ≡ gives e → known_type e.ty ≡ true
-      → (a : Outcome Attribute) → (sought_of s n look e l.from).answer ≡ a → Came (item_by raw l.from l.to e a)
+  by-item : (raw : ℕ) (l : Rest) (e : Entry) (key : Key) → entry_of (rest_of s l) n l.from ≡ gives e
+      → known_type e.ty ≡ true → (a : Outcome Attribute) → (sought_of s n look e l.from).answer ≡ a
+      → Came (item_by raw l.from l.to e key a)
   unfolding Came item_by
-  by-item raw l e g k (refuses r) q i p = absurd (cc)
-  by-item raw l e g k (gives h) q i p = found h.resident refl p
+  by-item raw l e key g k (refuses r) q i p = absurd (cc)
+  by-item raw l e key g k (gives h) q i p = found h.resident refl p
     where
       come : (o : Option Rest) → o ≡ pick h.resident None (Some l) → item e.file h o ≡ i → Comes i
       come o t u = subst Comes u (inr (record {
@@ -64,7 +66,7 @@ module _ (s : List ℕ) (n : RecordNumber) (look : RecordNumber → Option (List
       found : (t : Bool) → h.resident ≡ t
           → (pick t (leaves (gives (item e.file h None)) (state raw (Some (list_at (l.from + e.length) l.to)) None))
           (leaves (gives (item e.file h (Some (list_at l.from l.to))))
-          (state raw (Some (list_at (l.from + e.length) l.to)) (Some (key_of e))))).answer ≡ gives i → Comes i
+          (state raw (Some (list_at (l.from + e.length) l.to)) (Some key)))).answer ≡ gives i → Comes i
       found true t u = come None (rw t refl) (the-item u)
       found false t u = come (Some l) (rw t refl) (the-item u)
 
@@ -78,9 +80,9 @@ module _ (s : List ℕ) (n : RecordNumber) (look : RecordNumber → Option (List
       let y = peel s n to from e es q in
       by-test (known_type e.ty) _ (leaves (refuses (refusal UnknownType n from))
       (state raw (Some (list_at (from + e.length) to)) key))
-      (λ k. both (λ (l : Left). l.answer ≡ gives i → Comes i) (passed_over n key e) _ _
+      (λ k. both (λ (l : Left). l.answer ≡ gives i → Comes i) (passed_over n key e (name_in s (list_at from to) e)) _ _
       (come-entries on raw to f es (from + e.length) key y.tail i)
-      (by-item raw (list_at from to) e y.stands k (sought_of s n look e from).answer refl i))
+      (by-item raw (list_at from to) e (key_of e (name_in s (list_at from to) e)) y.stands k (sought_of s n look e from).answer refl i))
       (λ u. absurd (cc)) p
     where
       by-test : (t : Bool) (x y : Left) → (t ≡ true → x.answer ≡ gives i → Comes i) → (y.answer ≡ gives i → Comes i)

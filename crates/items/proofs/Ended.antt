@@ -13,11 +13,12 @@ use Rattle.record.specs.declared.layout.Attribute.{Attribute}
 use Rattle.record.specs.declared.layout.Span.{Span}
 use Rattle.record.proofs.Peel.{peel_raw}
 use Rattle.items.specs.State.{list_at, state, lies_in}
-use Rattle.items.specs.Items.{Left, leaves, entries_of, passed_over, sought_of, item_by, by_entries, by_list}
+use Rattle.items.specs.Key.{name_in, key_of, passed_over}
+use Rattle.items.specs.Items.{Left, leaves, entries_of, sought_of, item_by, by_entries, by_list}
 use Rattle.items.specs.Items.{by_attributes, next_by, next_in, next_of}
 use Rattle.items.specs.Laws.{EndsStay}
 use Rattle.items.specs.declared.walk.Rest.{Rest}
-use Rattle.items.specs.declared.walk.Key.{Key}
+use Rattle.items.specs.declared.key.Key.{Key}
 use Rattle.items.specs.declared.walk.State.{State}
 
 -- a walk that stands at its end
@@ -29,15 +30,15 @@ module _ (s : List ℕ) (n : RecordNumber) (look : RecordNumber → Option (List
   abbrev Ended : Left → Type 0
   Ended l = l.answer ≡ ends → AtEnd s n l.left
 
-  by_item : (raw from to : ℕ) (e : Entry) (a : Outcome Attribute) → Ended (item_by raw from to e a)
+  by_item : (raw from to : ℕ) (e : Entry) (key : Key) (a : Outcome Attribute) → Ended (item_by raw from to e key a)
   unfolding item_by
-  by_item raw from to e (refuses r) q = absurd (cc)
-  by_item raw from to e (gives h) q =
+  by_item raw from to e key (refuses r) q = absurd (cc)
+  by_item raw from to e key (gives h) q =
       both (λ (x : Left). x.answer ≡ ends → AtEnd s n x.left) h.resident
       (leaves (gives (record { file = e.file; attribute = h; rest = None }))
       (state raw (Some (list_at (from + e.length) to)) None))
       (leaves (gives (record { file = e.file; attribute = h; rest = Some (list_at from to) }))
-      (state raw (Some (list_at (from + e.length) to)) (Some (record { ty = e.ty; instance = e.instance }))))
+      (state raw (Some (list_at (from + e.length) to)) (Some key)))
       (λ g. absurd (cc)) (λ g. absurd (cc)) q
 
   entries_ended : (on : Option Key → Left) (raw to : ℕ) → ((key : Option Key) → Ended (on key))
@@ -49,9 +50,9 @@ module _ (s : List ℕ) (n : RecordNumber) (look : RecordNumber → Option (List
       let P : Left → Type 0 = λ (l : Left). l.answer ≡ ends → AtEnd s n l.left in
       both P (known_type x.ty)
       _ (leaves (refuses (refusal UnknownType n from)) (state raw (Some (list_at (from + x.length) to)) key))
-      (both P (passed_over n key x) _ _
+      (both P (passed_over n key x (name_in s (list_at from to) x)) _ _
       (entries_ended on raw to f es (from + x.length) key)
-      (by_item raw from to x (sought_of s n look x from).answer))
+      (by_item raw from to x (key_of x (name_in s (list_at from to) x)) (sought_of s n look x from).answer))
       (λ g. absurd (cc)) q
 
   list_ended : (on : Option Key → Left) (raw : ℕ) → ((key : Option Key) → Ended (on key)) → (a : Outcome Span)

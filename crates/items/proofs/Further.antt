@@ -17,11 +17,11 @@ use Rattle.record.specs.declared.layout.Span.{Span}
 use Rattle.record.proofs.Peel.{peel_raw}
 use Rattle.items.specs.State.{list_at, state, lies_in}
 use Rattle.items.specs.Lies.{Lies}
+use Rattle.items.specs.Key.{name_in, key_of, passed_over}
 use Rattle.items.specs.Items.{
   Left,
   leaves,
   entries_of,
-  passed_over,
   sought_of,
   item_by,
   by_entries,
@@ -33,7 +33,7 @@ use Rattle.items.specs.Items.{
 }
 use Rattle.items.specs.Laws.{Rests, Further, CallsGoOn}
 use Rattle.items.specs.declared.walk.Rest.{Rest}
-use Rattle.items.specs.declared.walk.Key.{Key}
+use Rattle.items.specs.declared.key.Key.{Key}
 use Rattle.items.specs.declared.walk.State.{State}
 use Rattle.items.proofs.Steps.{list_room}
 use Rattle.items.proofs.Peel.{peel}
@@ -62,18 +62,18 @@ module _ (m raw from to : ℕ) where
       → Ahead m raw (Some (list_at from to)) (state raw (Some (list_at at to)) key)
   at_rest at l k z key = record { at = omega arith; list = λ e. (l, refl); lies = record { order = k; most = z } }
 
-  by_item : (e : Entry) → from + e.length ≤ to → to ≤ m → (a : Outcome Attribute)
-      → Ahead m raw (Some (list_at from to)) (item_by raw from to e a).left
+  by_item : (e : Entry) (key : Key) → from + e.length ≤ to → to ≤ m → (a : Outcome Attribute)
+      → Ahead m raw (Some (list_at from to)) (item_by raw from to e key a).left
   unfolding item_by
-  by_item e l z (refuses r) = at_rest (from + e.length) (omega arith) l z None
-  by_item e l z (gives h) =
+  by_item e key l z (refuses r) = at_rest (from + e.length) (omega arith) l z None
+  by_item e key l z (gives h) =
       both (λ (x : Left). Ahead m raw (Some (list_at from to)) x.left) h.resident
       (leaves (gives (record { file = e.file; attribute = h; rest = None }))
       (state raw (Some (list_at (from + e.length) to)) None))
       (leaves (gives (record { file = e.file; attribute = h; rest = Some (list_at from to) }))
-      (state raw (Some (list_at (from + e.length) to)) (Some (record { ty = e.ty; instance = e.instance }))))
+      (state raw (Some (list_at (from + e.length) to)) (Some key)))
       (at_rest (from + e.length) (omega arith) l z None) (at_rest (from + e.length) (omega arith) l z
-      (Some (record { ty = e.ty; instance = e.instance })))
+      (Some key))
 
 module _ (s : List ℕ) (n : RecordNumber) (look : RecordNumber → Option (List ℕ)) where
   abbrev Goes : ℕ → Option Rest → Left → Type 0
@@ -106,10 +106,10 @@ module _ (s : List ℕ) (n : RecordNumber) (look : RecordNumber → Option (List
       let P : Left → Type 0 = λ (y : Left). Ahead (length s) raw (Some (list_at from to)) y.left in
       both P (known_type x.ty)
       _ (leaves (refuses (refusal UnknownType n from)) (state raw (Some (list_at (from + x.length) to)) key))
-      (both P (passed_over n key x) _ _
+      (both P (passed_over n key x (name_in s (list_at from to) x)) _ _
       (back raw from (from + x.length) to (omega arith) (by_entries s n look on raw to es (from + x.length) key).left
       (entries_on on raw to z f es (from + x.length) key b p.tail))
-      (by_item (length s) raw from to x b z (sought_of s n look x from).answer))
+      (by_item (length s) raw from to x (key_of x (name_in s (list_at from to) x)) b z (sought_of s n look x from).answer))
       (at_rest (length s) raw from to (from + x.length) (omega arith) b z key)
 
   -- behind the attribute that opened it

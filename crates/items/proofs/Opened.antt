@@ -1,5 +1,5 @@
 -- What the opening of a file and a lookup lean on.
-use Rattle.std.proofs.Common.{ℕ, ◌≡◌, List, true, false, length, eqb, ltb, sym, ap, ◌∙◌}
+use Rattle.std.proofs.Common.{ℕ, ◌≡◌, List, true, length, eqb, ltb, sym, ap, ◌∙◌}
 use Rattle.std.specs.Prelude.{Option, Some, None, IfOk, IfSome, Result, Ok, Err, option_copied}
 use Rattle.std.specs.Borrow.{Bor}
 use Rattle.std.proofs.lemmas.Bool.{eqb-true}

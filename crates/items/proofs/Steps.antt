@@ -22,15 +22,15 @@ use Rattle.record.specs.declared.layout.Span.{Span}
 use Rattle.record.proofs.Spans.{list-lies}
 use Rattle.record.proofs.Walks as walks
 use Rattle.record.proofs.Trails as trails
-use Rattle.items.specs.State.{list_at, state, rest_of, key_of}
+use Rattle.items.specs.State.{list_at, state, rest_of}
 use Rattle.items.specs.Read.{Read, own, entry as read, sought as seen, spot}
+use Rattle.items.specs.Key.{name_in, key_of, passed_over}
 use Rattle.items.specs.Items.{
   Left,
   leaves,
   reading,
   item,
   entries_of,
-  passed_over,
   sought_of,
   item_by,
   item_of,
@@ -42,7 +42,7 @@ use Rattle.items.specs.Items.{
 }
 use Rattle.items.specs.Walked.{Reported, reported, report_of}
 use Rattle.items.specs.declared.walk.Rest.{Rest}
-use Rattle.items.specs.declared.walk.Key.{Key}
+use Rattle.items.specs.declared.key.Key.{Key}
 use Rattle.items.specs.declared.walk.State.{State}
 use Rattle.items.specs.declared.walk.Item.{Item}
 
@@ -139,57 +139,63 @@ module _ (s : List ℕ) (n : RecordNumber) (look : RecordNumber → Option (List
       unfolding next_by by_entries
       entry_unknown u = sym (is ∙ rw (first_entry s n l e g, u) (last k (read (spot raw l.from) e) _ _))
 
-      goes : known_type e.ty ≡ true → passed_over n key e ≡ true
+      goes : known_type e.ty ≡ true → passed_over n key e (name_in s l e) ≡ true
           → next_by s n look raw (Some l) key ≡ reading (read (spot raw l.from) e ∷ [])
           (next_by s n look raw (Some (list_at (l.from + e.length) l.to)) key)
       unfolding next_by by_entries
       goes u v = rw (first_entry s n l e g, u, v)
 
-      pub entry_passed : known_type e.ty ≡ true → passed_over n key e ≡ true
+      pub entry_passed : (name : List ℕ) → name ≡ name_in s l e → known_type e.ty ≡ true
+          → passed_over n key e name ≡ true
           → x ≡ after (k + 1) (next_by s n look raw (Some (list_at (l.from + e.length) l.to)) key)
       unfolding next_by by_entries
-      entry_passed u v = is ∙ ap (after k) (goes u v) ∙ one k (read (spot raw l.from) e)
+      entry_passed name w u v = is ∙ ap (after k) (goes u (rw w at v)) ∙ one k (read (spot raw l.from) e)
           (next_by s n look raw (Some (list_at (l.from + e.length) l.to)) key)
 
-      looks : known_type e.ty ≡ true → passed_over n key e ≡ false
+      looks : known_type e.ty ≡ true → passed_over n key e (name_in s l e) ≡ false
           → next_by s n look raw (Some l) key ≡ reading (read (spot raw l.from) e ∷ [])
-          (item_of raw l.from l.to e (sought_of s n look e l.from))
+          (item_of raw l.from l.to e (key_of e (name_in s l e)) (sought_of s n look e l.from))
       unfolding next_by by_entries
       looks u v = rw (first_entry s n l e g, u, v)
 
-      sought : known_type e.ty ≡ true → passed_over n key e ≡ false
+      sought : known_type e.ty ≡ true → passed_over n key e (name_in s l e) ≡ false
           → x ≡ after (k + 1 + length (sought_of s n look e l.from).read)
-          (item_by raw l.from l.to e (sought_of s n look e l.from).answer)
+          (item_by raw l.from l.to e (key_of e (name_in s l e)) (sought_of s n look e l.from).answer)
       sought u v = is ∙ ap (after k) (looks u v) ∙ one k (read (spot raw l.from) e)
-          (item_of raw l.from l.to e (sought_of s n look e l.from))
+          (item_of raw l.from l.to e (key_of e (name_in s l e)) (sought_of s n look e l.from))
           ∙ searched (k + 1) e.file (sought_of s n look e l.from)
-          (item_by raw l.from l.to e (sought_of s n look e l.from).answer)
+          (item_by raw l.from l.to e (key_of e (name_in s l e)) (sought_of s n look e l.from).answer)
 
       module _ (c : Report Attribute) (d : c ≡ count_of (sought_of s n look e l.from)) (u : known_type e.ty ≡ true)
-          (v : passed_over n key e ≡ false) where
-        found : after (k + 1 + c.reads) (item_by raw l.from l.to e c.answer) ≡ x
-        found = ap (λ (q : Report Attribute). after (k + 1 + q.reads) (item_by raw l.from l.to e q.answer)) d
-            ∙ sym (sought u v)
+          (name : List ℕ) (w : name ≡ name_in s l e) (v : passed_over n key e name ≡ false) where
+        found : after (k + 1 + c.reads) (item_by raw l.from l.to e (key_of e name) c.answer) ≡ x
+        found = ap (λ (q : Report Attribute). after (k + 1 + q.reads)
+            (item_by raw l.from l.to e (key_of e name) q.answer)) d
+            ∙ ap (λ (m : List ℕ). after (k + 1 + length (sought_of s n look e l.from).read)
+            (item_by raw l.from l.to e (key_of e m) (sought_of s n look e l.from).answer)) w
+            ∙ sym (sought u (rw w at v))
 
         pub entry_missed : (r : Refusal) → refuses r ≡ c.answer
             → reported (refuses r) (state raw (Some (list_at (l.from + e.length) l.to)) None) (k + 1 + c.reads) ≡ x
         unfolding item_by
         entry_missed r q = sym (none _ _ _) ∙ ap (λ (a : Outcome Attribute). after (k + 1 + c.reads)
-            (item_by raw l.from l.to e a)) q ∙ found
+            (item_by raw l.from l.to e (key_of e name) a)) q ∙ found
 
         pub entry_resident : (h : Attribute) → gives h ≡ c.answer → h.resident ≡ true
             → reported (gives (item e.file h None)) (state raw (Some (list_at (l.from + e.length) l.to)) None)
             (k + 1 + c.reads) ≡ x
         unfolding item_by
         entry_resident h q t = sym (none _ _ _) ∙ ap (after (k + 1 + c.reads)) (yes _ _ _ t refl)
-            ∙ ap (λ (a : Outcome Attribute). after (k + 1 + c.reads) (item_by raw l.from l.to e a)) q ∙ found
+            ∙ ap (λ (a : Outcome Attribute). after (k + 1 + c.reads) (item_by raw l.from l.to e (key_of e name) a)) q
+            ∙ found
 
         pub entry_runs : (h : Attribute) → gives h ≡ c.answer → h.resident ≡ false
             → reported (gives (item e.file h (Some l))) (state raw (Some (list_at (l.from + e.length) l.to))
-            (Some (key_of e))) (k + 1 + c.reads) ≡ x
+            (Some (key_of e name))) (k + 1 + c.reads) ≡ x
         unfolding item_by
         entry_runs h q t = sym (none _ _ _) ∙ ap (after (k + 1 + c.reads)) (no _ _ _ t refl)
-            ∙ ap (λ (a : Outcome Attribute). after (k + 1 + c.reads) (item_by raw l.from l.to e a)) q ∙ found
+            ∙ ap (λ (a : Outcome Attribute). after (k + 1 + c.reads) (item_by raw l.from l.to e (key_of e name) a)) q
+            ∙ found
 
   -- with none
   module _ (z : o ≡ None) where

@@ -15,15 +15,16 @@ use Rattle.record.specs.Walk.{walk_from, attributes_of}
 use Rattle.record.specs.declared.layout.Attribute.{Attribute}
 use Rattle.record.specs.declared.layout.Span.{Span}
 use Rattle.record.proofs.Peel.{peel_raw}
-use Rattle.items.specs.State.{list_at, state, fresh_of, lies_in, key_of}
-use Rattle.items.specs.Items.{Left, leaves, item, entries_of, passed_over, sought_of, item_by, by_entries}
+use Rattle.items.specs.State.{list_at, state, fresh_of, lies_in}
+use Rattle.items.specs.Key.{name_in, key_of, passed_over}
+use Rattle.items.specs.Items.{Left, leaves, item, entries_of, sought_of, item_by, by_entries}
 use Rattle.items.specs.Items.{by_list}
 use Rattle.items.specs.Items.{by_attributes, next_by, next_in, next_of}
 use Rattle.items.specs.Walked.{report_of}
 use Rattle.items.specs.Calls.{answered, items_from, items_of}
 use Rattle.items.specs.Laws.{found_gives, entries_give, list_gives, attributes_give, ItemsOfAttributes}
 use Rattle.items.specs.Laws.{KeysOutliveLists}
-use Rattle.items.specs.declared.walk.Key.{Key}
+use Rattle.items.specs.declared.key.Key.{Key}
 use Rattle.items.specs.declared.walk.State.{State}
 use Rattle.items.specs.declared.walk.Item.{Item}
 use Rattle.items.proofs.Calls.{then_rest}
@@ -61,16 +62,17 @@ module _ (s : List ℕ) (n : RecordNumber) (look : RecordNumber → Option (List
 
   found : (raw from to : ℕ) (e : Entry) (on : Option Key → List (Outcome Item))
       → ((key : Option Key) → items_from s n look (state raw (Some (list_at (from + e.length) to)) key) ≡ on key)
-      → (a : Outcome Attribute) → went (item_by raw from to e a) ≡ found_gives s n look e (list_at from to) on a
+      → (a : Outcome Attribute) → went (item_by raw from to e
+      (key_of e (name_in s (list_at from to) e)) a) ≡ found_gives s n look e (list_at from to) on a
   unfolding went answered item_by found_gives
   found raw from to e on step (refuses r) = refl
   found raw from to e on step (gives h) =
       same h.resident
       (leaves (gives (item e.file h None)) (state raw (Some (list_at (from + e.length) to)) None))
       (leaves (gives (item e.file h (Some (list_at from to))))
-      (state raw (Some (list_at (from + e.length) to)) (Some (key_of e)))) _ _
+      (state raw (Some (list_at (from + e.length) to)) (Some (key_of e (name_in s (list_at from to) e))))) _ _
       (ap (λ (xs : List (Outcome Item)). gives (item e.file h None) ∷ xs) (step None))
-      (ap (λ (xs : List (Outcome Item)). gives (item e.file h (Some (list_at from to))) ∷ xs) (step (Some (key_of e))))
+      (ap (λ (xs : List (Outcome Item)). gives (item e.file h (Some (list_at from to))) ∷ xs) (step (Some (key_of e (name_in s (list_at from to) e)))))
 
   entries : (hs : List (Outcome Attribute)) (raw to : ℕ) → to ≤ length s → hs ≡ walk_from s n raw
       → ((key : Option Key) → went (by_attributes s n look hs raw key) ≡ attributes_give s n look hs key)
@@ -93,7 +95,7 @@ module _ (s : List ℕ) (n : RecordNumber) (look : RecordNumber → Option (List
       (from + e.length) k) (sym y.tail))
       ∙ rest k in
       same (known_type e.ty) _ _ _ _
-      (same (passed_over n key e) _ _ _ _ (rest key) (found raw from to e on step (sought_of s n look e from).answer))
+      (same (passed_over n key e (name_in s (list_at from to) e)) _ _ _ _ (rest key) (found raw from to e on step (sought_of s n look e from).answer))
       refl
 
   listed : (at : ℕ) (hs : List (Outcome Attribute)) (h : Attribute) → Inside s h → hs ≡ walk_from s n at

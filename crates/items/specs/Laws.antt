@@ -1,6 +1,6 @@
 -- What holds of this chapter whatever the bytes; src/laws.rt has the functions whose contracts these are.
-use Rattle.std.specs.Prelude.{ℕ, ◌+◌, ◌-◌, ◌<◌, ◌≤◌, ◌≡◌, ◌⊎◌, List, [], ◌∷◌, true, eqb, length, Option, Some, None}
-use Rattle.std.specs.Prelude.{Result, IfOk, IfSome}
+use Rattle.std.specs.Prelude.{ℕ, ◌+◌, ◌-◌, ◌*◌, ◌<◌, ◌≤◌, ◌≡◌, ◌⊎◌, List, [], ◌∷◌, true, eqb, length, take, Option, Some}
+use Rattle.std.specs.Prelude.{None, Result, IfOk, IfSome}
 use Rattle.fields.specs.Pick.{pick}
 use Rattle.fields.specs.Answer.{Outcome, gives, ends, refuses, refusal}
 use Rattle.fields.specs.Known.{known_type, attribute_list}
@@ -23,15 +23,16 @@ use Rattle.record.specs.declared.layout.Attribute.{Attribute}
 use Rattle.record.specs.declared.values.Located.{Located}
 use Rattle.items.specs.Told.{shown_base, told_found}
 use Rattle.items.specs.Lookup.{lookup_of}
-use Rattle.items.specs.State.{list_at, state, rest_of, key_of, weight}
+use Rattle.items.specs.State.{list_at, state, rest_of, weight}
+use Rattle.items.specs.Key.{name_in, key_of, continues, passed_over}
 use Rattle.items.specs.Lies.{Lies}
-use Rattle.items.specs.Items.{leaves, item, entries_of, passed_over, sought_of, next_of}
+use Rattle.items.specs.Items.{leaves, item, entries_of, sought_of, next_of}
 use Rattle.items.specs.Walked.{told_next, report_of}
 use Rattle.items.specs.Calls.{calls, calls_from, answered, items_from, items_of}
 use Rattle.items.specs.OfFile.{of_file}
 use Rattle.items.specs.declared.File.{File}
 use Rattle.items.specs.declared.walk.Rest.{Rest}
-use Rattle.items.specs.declared.walk.Key.{Key}
+use Rattle.items.specs.declared.key.Key.{Key}
 use Rattle.items.specs.declared.walk.State.{State}
 use Rattle.items.specs.declared.walk.Item.{Item}
 use Rattle.items.specs.declared.walk.Walked.{Walked}
@@ -64,6 +65,24 @@ pub record Sought (f : File) (e : Entry) (place : ℕ) (c : Counted Located) : T
 abbrev pub SoughtSettle : Type 0
 SoughtSettle = (f : File) (e : Entry) (place : ℕ) (c d : Counted Located) → Sought f e place c → Sought f e place d
     → Alike SameFound c.answer d.answer × (c.reads ≡ d.reads)
+
+-- RULES 14.9: what it takes to continue the stream of an entry with a name: the same type, the same name, and a lowest
+-- VCN of its own that is not 0
+pub record Continues (e : Entry) (name : List ℕ) (f : Entry) (own : List ℕ) : Type 0 where
+  pub ty : f.ty ≡ e.ty
+  pub same : own ≡ name
+  pub behind : 0 < f.lowest.0
+
+-- and where these hold, and only there, an entry continues the stream of the key that the other left
+abbrev pub KeysTell : Type 0
+KeysTell = (e : Entry) (name : List ℕ) (f : Entry) (own : List ℕ) → length name ≡ 2 * e.name_units
+    → (continues (key_of e name) f own ≡ true → Continues e name f own) × (Continues e name f own
+    → continues (key_of e name) f own ≡ true)
+
+-- what stands in a key behind its name tells nothing
+abbrev pub TailsTellNothing : Type 0
+TailsTellNothing = (j k : Key) (f : Entry) (own : List ℕ) → j.ty ≡ k.ty → j.units ≡ k.units
+    → take (2 * j.units) j.name ≡ take (2 * k.units) k.name → continues j f own ≡ continues k f own
 
 module _ (s : List ℕ) (n : RecordNumber) (look : RecordNumber → Option (List ℕ)) where
   -- results of calls of next, one behind the other: each from the state that the one before left
@@ -131,7 +150,8 @@ module _ (s : List ℕ) (n : RecordNumber) (look : RecordNumber → Option (List
       → List (Outcome Item)
   found_gives e l on (refuses r) = refuses r ∷ []
   found_gives e l on (gives h) =
-      pick h.resident (gives (item e.file h None) ∷ on None) (gives (item e.file h (Some l)) ∷ on (Some (key_of e)))
+      pick h.resident (gives (item e.file h None) ∷ on None)
+      (gives (item e.file h (Some l)) ∷ on (Some (key_of e (name_in s l e))))
 
   -- the entries of a list that ends at `to`, from a place on, and what follows behind it
   unfoldable pub entries_give : (Option Key → List (Outcome Item)) → ℕ → List (Outcome Entry) → ℕ → Option Key
@@ -140,7 +160,7 @@ module _ (s : List ℕ) (n : RecordNumber) (look : RecordNumber → Option (List
   entries_give on to (refuses r ∷ es) from key = refuses r ∷ []
   entries_give on to (gives e ∷ es) from key =
       pick (known_type e.ty)
-      (pick (passed_over n key e)
+      (pick (passed_over n key e (name_in s (list_at from to) e))
       (entries_give on to es (from + e.length) key)
       (found_gives e (list_at from to) (entries_give on to es (from + e.length)) (sought_of s n look e from).answer))
       (refuses (refusal UnknownType n from) ∷ [])

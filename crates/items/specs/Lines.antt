@@ -1,6 +1,6 @@
 -- RULES 20: both sides of each line, as one table: a question of these definitions, the bytes that it is asked of,
 -- and what is to be answered.
-use Rattle.std.specs.Prelude.{ℕ, ◌-◌, ◌≡◌, List, [], ◌∷◌, ◌++◌, map, length, drop, replicate}
+use Rattle.std.specs.Prelude.{ℕ, ◌+◌, ◌-◌, ◌/◌, ◌^◌, ◌≡◌, Bool, true, false, List, [], ◌∷◌, ◌++◌, map, length, drop, replicate}
 use Rattle.fields.specs.LeBytes.{le_bytes}
 use Rattle.fields.specs.Answer.{Outcome, Answer, gives, ends, refuses, refusal, unended}
 use Rattle.fields.specs.declared.Cause.{Cause}
@@ -8,10 +8,12 @@ use Rattle.fields.specs.declared.Cause.TheVariants.{AttributeCut, AttributeShort
 use Rattle.fields.specs.declared.Cause.TheVariants.{ValueEnd, EntryShort, EntryNameCut, UsedSize, AttributeStale}
 use Rattle.fields.specs.declared.RecordNumber.{RecordNumber}
 use Rattle.list.specs.Entry.{entry_of}
+use Rattle.list.specs.declared.Entry.{Entry}
 use Rattle.record.specs.Open.{FILE, Lent, open_of}
 use Rattle.record.specs.Walk.{step_at}
 use Rattle.record.specs.Name.{name_of}
 use Rattle.record.specs.Value.{value_of}
+use Rattle.items.specs.Key.{key_of, continues}
 
 -- a raw step, a name or a value of a record that is opened first; or an entry
 pub data Ask : Type 0 where
@@ -124,3 +126,61 @@ rows =
 abbrev pub BothSides : Type 0
 BothSides =
     map (λ r. answer_to r.asks (record_with r.long r.used r.place r.bytes) r.place) rows ≡ map (λ r. r.says) rows
+
+-- RULES 14.9: an entry of type 128 with a name left a key; whether another with this type, name and lowest VCN continues
+-- its stream
+pub record Join : Type 0 where
+  pub key : List ℕ
+  pub ty : ℕ
+  pub name : List ℕ
+  pub lowest : ℕ
+  pub says : Bool
+
+abbrev pub join : List ℕ → ℕ → List ℕ → ℕ → Bool → Join
+join k t m v a = record { key = k; ty = t; name = m; lowest = v; says = a }
+
+abbrev pub entry_with : ℕ → List ℕ → ℕ → Entry
+entry_with t m v = record {
+  ty = t;
+  length = 26 + length m;
+  name_units = length m / 2;
+  lowest = record { 0 = v };
+  file = number;
+  instance = 0;
+}
+
+-- names of two units, of one, of three, and of two that end otherwise
+abbrev pub two : List ℕ
+two = 65 ∷ 0 ∷ 66 ∷ 0 ∷ []
+
+abbrev pub one : List ℕ
+one = 65 ∷ 0 ∷ []
+
+abbrev pub three : List ℕ
+three = 65 ∷ 0 ∷ 66 ∷ 0 ∷ 67 ∷ 0 ∷ []
+
+abbrev pub other : List ℕ
+other = 65 ∷ 0 ∷ 66 ∷ 1 ∷ []
+
+abbrev pub joins : List Join
+joins =
+    -- lowest VCN 0 begins a stream; 1, 2^63 and 2^64 - 1 continue one
+    join two 128 two 0 false
+    ∷ join two 128 two 1 true
+    ∷ join two 128 two (2 ^ 63) true
+    ∷ join two 128 two (2 ^ 64 - 1) true
+    -- a unit more, a unit less, another last byte, another type
+    ∷ join two 128 three 1 false
+    ∷ join two 128 one 1 false
+    ∷ join two 128 other 1 false
+    ∷ join two 144 two 1 false
+    -- no name; and one of 255 units
+    ∷ join [] 128 [] 1 true
+    ∷ join [] 128 one 1 false
+    ∷ join one 128 [] 1 false
+    ∷ join (replicate 510 7) 128 (replicate 510 7) 1 true
+    ∷ []
+
+abbrev pub Joined : Type 0
+Joined = map (λ j. continues (key_of (entry_with 128 j.key 0) j.key) (entry_with j.ty j.name j.lowest) j.name) joins
+    ≡ map (λ j. j.says) joins

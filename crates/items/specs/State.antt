@@ -1,14 +1,13 @@
 -- RULES 13: where a walk stands, what it passes over, and check 22.
-use Rattle.std.specs.Prelude.{ℕ, suc, ◌+◌, ◌-◌, ◌*◌, ◌&&◌, List, Bool, true, false, take, drop, eqb, leb, length}
+use Rattle.std.specs.Prelude.{ℕ, suc, ◌+◌, ◌-◌, ◌*◌, ◌&&◌, List, Bool, true, take, drop, leb, length}
 use Rattle.std.specs.Prelude.{Option, Some, None}
 use Rattle.fields.specs.Pick.{pick}
 use Rattle.fields.specs.Answer.{Outcome, gives, refuses, refusal}
 use Rattle.fields.specs.declared.Cause.TheVariants.{BadState}
 use Rattle.fields.specs.declared.RecordNumber.{RecordNumber}
 use Rattle.record.specs.Header.{first_attribute}
-use Rattle.list.specs.declared.Entry.{Entry}
 use Rattle.items.specs.declared.walk.Rest.{Rest}
-use Rattle.items.specs.declared.walk.Key.{Key}
+use Rattle.items.specs.declared.key.Key.{Key}
 use Rattle.items.specs.declared.walk.State.{State}
 
 abbrev pub list_at : ℕ → ℕ → Rest
@@ -34,15 +33,6 @@ lies_in m (Some l) = leb l.from l.to && leb l.to m
 -- check 22
 unfoldable pub inside_of : List ℕ → RecordNumber → Option Rest → Outcome Unit
 inside_of s n o = pick (lies_in (length s) o) (gives tt) (refuses (refusal BadState n 0))
-
--- whether an entry has the skip key's type and instance
-unfoldable pub agrees : Option Key → Entry → Bool
-agrees (Some k) e = eqb e.ty k.ty && eqb e.instance k.instance
-agrees None e = false
-
--- the key that an entry leaves
-abbrev pub key_of : Entry → Key
-key_of e = record { ty = e.ty; instance = e.instance }
 
 -- what is left to read of a record of m bytes: a number that an item lowers
 abbrev pub left_in : Option Rest → ℕ

@@ -1,7 +1,8 @@
 -- RULES 14, 17: what a call of the walk says, with its count.
-use Rattle.std.specs.Prelude.{ℕ, length}
+use Rattle.std.specs.Prelude.{ℕ, length, Option}
 use Rattle.fields.specs.Answer.{Answer}
 use Rattle.fields.specs.Told.{told_step}
+use Rattle.fields.specs.declared.Counted.{Counted}
 use Rattle.items.specs.Items.{Left}
 use Rattle.items.specs.declared.walk.Item.{Item}
 use Rattle.items.specs.declared.walk.State.{State}
@@ -15,6 +16,10 @@ pub record Reported : Type 0 where
 
 abbrev pub reported : Answer Item → State → ℕ → Reported
 reported a w k = record { answer = a; left = w; reads = k }
+
+-- the result of a call that leaves its state in place, with the state
+abbrev pub walked : Counted (Option Item) → State → Walked
+walked r w = record { answer = r.answer; left = w; reads = r.reads }
 
 abbrev pub told_next : Walked → Reported
 told_next r = reported (told_step r.answer) r.left r.reads

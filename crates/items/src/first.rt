@@ -20,9 +20,8 @@ impl<'a> File<'a> {
         let mut at = self.fresh();
         let mut reads = 0;
         let answer = 'items: loop {
-            let walked = self.next(at);
+            let walked = self.advance(&mut at);
             reads += walked.reads;
-            at = walked.left;
             let item = match walked.answer {
                 Ok(Some(item)) => item,
                 Ok(None) => break 'items self.base.refused(Cause::NoAttribute, 0),

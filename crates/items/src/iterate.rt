@@ -24,13 +24,9 @@ impl<'a> Iterator for Items<'a> {
 
     #[tactic(auto, using(crate::proofs::Calls::turns))]
     fn next(&mut self) -> Option<Result<Item, Refusal>> {
-        let state = self.state?;
-        let walked = self.file.next(state);
-        match walked.answer {
-            Ok(Some(item)) => {
-                self.state = Some(walked.left);
-                Some(Ok(item))
-            }
+        let state = self.state.as_mut()?;
+        match self.file.advance(state).answer {
+            Ok(Some(item)) => Some(Ok(item)),
             Ok(None) => {
                 self.state = None;
                 None

@@ -3,8 +3,8 @@ ghost use Rattle.fields.specs.Laws.{Settles};
 ghost use Rattle.items.specs.Walked.{told_next};
 ghost use Rattle.items.specs.Laws.{OpeningsSettle, SoughtSettle, CallsGiveItems, CallsGoOn, EndsStay};
 ghost use Rattle.items.specs.Laws.{ItemsLower, CallsEnd, EntriesEnd, ItemsOfAttributes, KeysOutliveLists};
-ghost use Rattle.items.specs.Laws.{ItemsCome, ItemsAreFoundAgain};
-ghost use Rattle.items.specs.Lines.{BothSides};
+ghost use Rattle.items.specs.Laws.{ItemsCome, ItemsAreFoundAgain, KeysTell, TailsTellNothing};
+ghost use Rattle.items.specs.Lines.{BothSides, Joined};
 
 /// A call whose contract states its answer shows one result at most (RULES 2, 17); of other results `fields` and
 /// `record` have the law.
@@ -16,7 +16,15 @@ pub fn results_settle()
 
 /// The cases on both sides of each line (RULES 20).
 pub fn both_sides_of_each_line()
-    ensures { BothSides }
+    ensures bytes { BothSides }
+    ensures streams { Joined }
+{}
+
+/// An entry continues the stream of the key that another left where it has the same type and the same name, and its own
+/// lowest VCN is not 0; what stands in a key behind its name tells nothing (RULES 13.1, 14.9).
+pub fn keys_tell_a_stream()
+    ensures stream { KeysTell }
+    ensures tails { TailsTellNothing }
 {}
 
 /// Calls of `next` one after another give the items of the walk (RULES 14).

@@ -1,11 +1,11 @@
 //! The item walk: where it stands, and its items (RULES 13, 14).
 ghost use Rattle.std.specs.Prelude.{◌≡◌};
 ghost use Rattle.fields.specs.Told.{told};
-ghost use Rattle.items.specs.State.{fresh_of, key_of, inside_of};
+ghost use Rattle.items.specs.State.{fresh_of, inside_of};
 
-use crate::{File, Items};
+use crate::{File, Items, Key};
 use fields::{ATTRIBUTE_LIST, Cause, Counted, RecordNumber, Refusal, known_type};
-use list::Entry;
+use list::{Entry, NamedEntry};
 use record::{Attribute, Located};
 
 /// The rest of a list, from its next entry on: where it begins and ends, offsets in the base record.
@@ -13,13 +13,6 @@ use record::{Attribute, Located};
 pub struct Rest {
     pub from: usize,
     pub to: usize,
-}
-
-/// What the walk passes over: entries of this type and instance.
-#[derive(Clone, Copy, PartialEq, Eq)]
-pub struct Key {
-    pub ty: u32,
-    pub instance: u16,
 }
 
 /// Where a walk stands: the offset of the next raw attribute, the open list, and the skip key.
@@ -49,6 +42,10 @@ pub struct Walked {
 }
 
 impl State {
+    ghost use Rattle.std.specs.Prelude.{◌≡◌};
+    ghost use Rattle.items.specs.State.{fresh_of};
+    ghost use Rattle.items.specs.Key.{skips};
+
     /// A walk that begins in a record of these bytes, whatever they are.
     #[tactic(auto, unfolding(crate::specs::State::fresh_of))]
     pub fn fresh(bytes: &[u8]) -> State
@@ -60,16 +57,15 @@ impl State {
             key: None,
         }
     }
-}
 
-impl Key {
-    /// The key of an entry.
-    pub fn of(e: &Entry) -> Key
-        ensures { result ≡ key_of e.now }
+    // Whether an entry continues the stream of the key.
+    #[tactic(auto, unfolding(crate::specs::Key::skips))]
+    fn skips(&self, e: &NamedEntry) -> bool
+        ensures { result ≡ skips self.now.key e.now.entry e.now.name.now }
     {
-        Key {
-            ty: e.ty,
-            instance: e.instance,
+        match &self.key {
+            Some(key) => key.is_continued_by(e),
+            None => false,
         }
     }
 }
@@ -97,11 +93,12 @@ impl<'a> File<'a> {
     ghost use Rattle.items.specs.Lies.{Lies};
     ghost use Rattle.items.specs.Told.{told_found};
     ghost use Rattle.items.specs.Lookup.{lookup_of};
-    ghost use Rattle.items.specs.Items.{passed_over, sought_of, next_in, next_of};
+    ghost use Rattle.items.specs.Key.{passed_over};
+    ghost use Rattle.items.specs.Items.{sought_of, next_in, next_of};
     ghost use Rattle.items.specs.Calls.{items_of};
     ghost use Rattle.items.specs.Rest.{rest};
     ghost use Rattle.items.specs.OfFile.{of_file};
-    ghost use Rattle.items.specs.Walked.{told_next, report_of};
+    ghost use Rattle.items.specs.Walked.{walked, told_next, report_of};
     ghost use Rattle.items.specs.Bounds.{size_of, Lowers, Paid};
 
     /// A walk that begins.
@@ -118,12 +115,13 @@ impl<'a> File<'a> {
         inside(self.base.bytes, self.base.number, list)
     }
 
-    // Whether the walk passes over an entry of a known type: one of the base record, or one that the key covers.
-    #[tactic(auto, unfolding(crate::specs::Items::passed_over, crate::specs::State::agrees))]
-    fn passes_over(&self, key: Option<Key>, e: &Entry) -> bool
-        ensures { result ≡ passed_over self.now.base.number key e.now }
+    // Whether the walk passes over an entry of a known type: one of the base record, or one that continues the stream
+    // of the key.
+    #[tactic(auto, unfolding(crate::specs::Key::passed_over))]
+    fn passes_over(&self, at: &State, e: &NamedEntry) -> bool
+        ensures { result ≡ passed_over self.now.base.number at.now.key e.now.entry e.now.name.now }
     {
-        e.file == self.base.number || key == Some(Key::of(e))
+        e.entry.file == self.base.number || at.skips(e)
     }
 
     /// The attribute that an entry at a place of the base record names, in the record that it names: 17, 2 and 27, then
@@ -161,28 +159,28 @@ impl<'a> File<'a> {
     }
 
     // The next item, the end or a refusal, from a state whose list lies inside the record: the entry loop inside the
-    // raw loop, as the rules have it, left by label.
+    // raw loop, as the rules have it, left by label. The state is left in place, so that a key is not moved.
     #[tactic(auto, using(crate::proofs::Steps::steps))]
-    fn next_inside(&self, from: State) -> Walked
-        requires { IfSome from.list (Lies (size_of self.now)) }
-        ensures answer { told_next result ≡ report_of (of_file next_in self.now from) }
-        ensures lower { Lowers (size_of self.now) from result }
-        ensures paid { Paid (size_of self.now) from result }
+    fn next_inside(&self, at: &mut State) -> Counted<Option<Item>>
+        requires { IfSome at.old.list (Lies (size_of self.now)) }
+        ensures answer { told_next (walked result at.new) ≡ report_of (of_file next_in self.now at.old) }
+        ensures lower { Lowers (size_of self.now) at.old (walked result at.new) }
+        ensures paid { Paid (size_of self.now) at.old (walked result at.new) }
     {
         let number = self.base.number;
-        let mut at = from;
         let mut reads: u64 = 0;
         let answer = 'raw: loop {
             'entries: while let Some(list) = at.list {
                 let rest = &self.base.bytes[list.from..list.to];
-                let e = match list::header(rest, number, list.from) {
-                    Ok(Some(e)) => e,
+                let named = match list::named(rest, number, list.from) {
+                    Ok(Some(named)) => named,
                     Ok(None) => {
                         at.list = None;
                         continue 'entries;
                     }
                     Err(r) => break 'raw Err(r),
                 };
+                let e = named.entry;
                 reads += 1;
                 at.list = Some(Rest {
                     from: list.from + e.length,
@@ -191,7 +189,7 @@ impl<'a> File<'a> {
                 if !known_type(e.ty) {
                     break 'raw self.base.refused(Cause::UnknownType, list.from);
                 }
-                if self.passes_over(at.key, &e) {
+                if self.passes_over(at, &named) {
                     continue 'entries;
                 }
                 let found = self.sought(&e, list.from);
@@ -208,7 +206,7 @@ impl<'a> File<'a> {
                         rest: None,
                     }));
                 }
-                at.key = Some(Key::of(&e));
+                at.key = Some(Key::of(&named));
                 break 'raw Ok(Some(Item {
                     file: e.file,
                     attribute,
@@ -244,27 +242,37 @@ impl<'a> File<'a> {
                 Err(r) => break 'raw Err(r),
             }
         };
-        Walked {
-            answer,
-            left: at,
-            reads,
+        Counted { answer, reads }
+    }
+
+    /// The next item, the end or a refusal, and the state left in place: 22, then the steps. Any state may be lent.
+    #[tactic(auto, using(crate::proofs::Bounds::insides))]
+    pub fn advance(&self, at: &mut State) -> Counted<Option<Item>>
+        ensures answer { told_next (walked result at.new) ≡ report_of (of_file next_of self.now at.old) }
+        ensures lower { Lowers (size_of self.now) at.old (walked result at.new) }
+        ensures paid { Paid (size_of self.now) at.old (walked result at.new) }
+    {
+        match self.inside(at.list) {
+            Ok(()) => self.next_inside(at),
+            Err(r) => Counted {
+                answer: Err(r),
+                reads: 0,
+            },
         }
     }
 
-    /// The next item, the end or a refusal: 22, then the steps. Any state may be handed in.
-    #[tactic(auto, using(crate::proofs::Bounds::insides))]
+    /// The same by value: any state may be handed in.
     pub fn next(&self, from: State) -> Walked
         ensures answer { told_next result ≡ report_of (of_file next_of self.now from) }
         ensures lower { Lowers (size_of self.now) from result }
         ensures paid { Paid (size_of self.now) from result }
     {
-        match self.inside(from.list) {
-            Ok(()) => self.next_inside(from),
-            Err(r) => Walked {
-                answer: Err(r),
-                left: from,
-                reads: 0,
-            },
+        let mut left = from;
+        let counted = self.advance(&mut left);
+        Walked {
+            answer: counted.answer,
+            left,
+            reads: counted.reads,
         }
     }
 

@@ -42,7 +42,7 @@ impl<'a> Walk<'a> {
             result ∷ pick (is_some (says result)) [] (walk_rest parts.new (Some self.new)) }
         ensures size { length parts.new ≡ length parts.old }
     {
-        let walked = self.file.next(self.state);
+        let walked = self.file.advance(&mut self.state);
         let reads = self.reads + walked.reads;
         match walked.answer {
             Ok(None) => Line::End { reads },
@@ -52,7 +52,6 @@ impl<'a> Walk<'a> {
             },
             Ok(Some(item)) => {
                 let told = item_line(&self.file, &item, parts);
-                self.state = walked.left;
                 self.runs = told.runs;
                 self.shown = 0;
                 self.count = told.count;

@@ -1,5 +1,5 @@
 -- The record of a part is found again, and its run bytes lie inside it.
-use Rattle.std.proofs.Common.{ℕ, ◌+◌, ◌-◌, ◌≤◌, ◌≡◌, List, [], ◌∷◌, length, eqb, ltb, refl, sym, ap}
+use Rattle.std.proofs.Common.{ℕ, ◌+◌, ◌-◌, ◌≤◌, ◌≡◌, List, [], ◌∷◌, length, ltb, refl, sym, ap}
 use Rattle.std.proofs.Common.{◌∙◌, arith}
 use Rattle.std.specs.Prelude.{Option, Some, None, All}
 use Rattle.std.proofs.lemmas.Bool.Decides.{nat_tests}
@@ -18,15 +18,16 @@ use Rattle.record.specs.declared.layout.FullHeader.{FullHeader}
 use Rattle.record.specs.declared.layout.FullHeader.TheVariants as header
 use Rattle.record.proofs.Given.{of-step}
 use Rattle.record.proofs.Searches.{found-stands}
-use Rattle.items.specs.State.{lies_in, key_of}
+use Rattle.items.specs.State.{lies_in, list_at}
+use Rattle.items.specs.Key.{name_in, key_of, continues}
 use Rattle.items.specs.Lookup.{lookup_of}
 use Rattle.items.specs.Items.{entries_of, found_in, sought_of}
-use Rattle.items.specs.declared.walk.Key.{Key}
+use Rattle.items.specs.declared.key.Key.{Key}
 use Rattle.items.specs.declared.walk.Rest.{Rest}
 use Rattle.items.proofs.Comes.{looked-again}
 use Rattle.parts.specs.declared.Part.{Part}
 use Rattle.parts.specs.Part.{part_after, part_in, part_of}
-use Rattle.parts.specs.Parts.{Given, Parts, giving, parts_by, parts_from, parts_in, parts_of}
+use Rattle.parts.specs.Parts.{Given, Parts, giving, taking, parts_by, parts_from, parts_in, parts_of}
 use Rattle.parts.specs.Laws.{FoundAgain, PartsAreFoundAgain}
 
 -- a part that is given names the record that it was judged in, and its run bytes end where its attribute does
@@ -100,29 +101,32 @@ module _ (s : List ℕ) (n : RecordNumber) (look : RecordNumber → Option (List
       All-cons (λ (g : Given). Again g.part) (record { place = place; part = x }) p.given (f x refl) h
   behind place (refuses r) p f h = nothing
 
-  by : (key : Key) (room : ℕ) (es : List (Outcome Entry)) (from : ℕ) → All-again (parts_by s n look key room es from)
-  unfolding parts_by
-  by key room [] from = nothing
-  by key room (refuses r ∷ es) from = nothing
-  by key room (gives e ∷ es) from =
-      both All-again (eqb e.instance key.instance) _ _
-      (both All-again (known_type e.ty) _ _
-      (both All-again (eqb e.ty key.ty) _ _
-      (both All-again (ltb 0 room) _ _
-      (behind from (part_of s n look e from) (parts_by s n look key (room - 1) es (from + e.length))
-      (part e from) (by key (room - 1) es (from + e.length)))
-      nothing) nothing) nothing) nothing
+  takes : (room : ℕ) (e : Entry) (from : ℕ) (p : Parts) → All-again p → All-again (taking s n look room e from p)
+  takes room e from p h = both All-again (ltb 0 room) _ _ (behind from (part_of s n look e from) p (part e from) h)
+      nothing
 
-  of-list : (room : ℕ) (es : List (Outcome Entry)) (from : ℕ) → All-again (parts_from s n look room es from)
+  by : (key : Key) (to room : ℕ) (es : List (Outcome Entry)) (from : ℕ)
+      → All-again (parts_by s n look key to room es from)
+  unfolding parts_by
+  by key to room [] from = nothing
+  by key to room (refuses r ∷ es) from = nothing
+  by key to room (gives e ∷ es) from =
+      both All-again (continues key e (name_in s (list_at from to) e)) _ _
+      (takes room e from _ (by key to (room - 1) es (from + e.length))) nothing
+
+  of-list : (to room : ℕ) (es : List (Outcome Entry)) (from : ℕ) → All-again (parts_from s n look to room es from)
   unfolding parts_from
-  of-list room [] from = nothing
-  of-list room (refuses r ∷ es) from = nothing
-  of-list room (gives e ∷ es) from = by (key_of e) room (gives e ∷ es) from
+  of-list to room [] from = nothing
+  of-list to room (refuses r ∷ es) from = nothing
+  of-list to room (gives e ∷ es) from =
+      both All-again (known_type e.ty) _ _
+      (takes room e from _ (by (key_of e (name_in s (list_at from to) e)) to (room - 1) es (from + e.length)))
+      nothing
 
   in-list : (room : ℕ) (o : Option Rest) → All-again (parts_in s n look room o)
   unfolding parts_in
   in-list room None = nothing
-  in-list room (Some l) = of-list room (entries_of s n l.to l.from) l.from
+  in-list room (Some l) = of-list l.to room (entries_of s n l.to l.from) l.from
 
   pub again : (room : ℕ) (o : Option Rest) → All-again (parts_of s n look room o)
   unfolding parts_of

@@ -6,3 +6,4 @@ pub mod Rooms
 pub mod Settled
 pub mod Some
 pub mod Again
+pub mod Streams

@@ -1,8 +1,7 @@
 -- An item that tells a list has a part, or its parts are refused.
-use Rattle.std.proofs.Common.{ℕ, ◌+◌, ◌-◌, ◌≤◌, ◌≡◌, Bool, true, false, List, length, eqb, ltb, refl, sym, ◌∙◌}
+use Rattle.std.proofs.Common.{ℕ, ◌+◌, ◌-◌, ◌≤◌, ◌≡◌, Bool, true, false, List, length, ltb, sym, ◌∙◌}
 use Rattle.std.proofs.Common.{subst, map, arith}
 use mathlib.Core.Logic.{◌⊎◌, inl, inr}
-use borrow.Author.Tests.{eq-eqb}
 use Rattle.std.specs.Prelude.{Option, Some, None}
 use Rattle.fields.specs.Pick.{pick}
 use Rattle.fields.specs.Answer.{Outcome, gives, refuses, refusal}
@@ -11,7 +10,8 @@ use Rattle.fields.specs.declared.Refusal.{Refusal}
 use Rattle.fields.specs.declared.Cause.TheVariants.{NoRoom, BadState}
 use Rattle.fields.proofs.Answers.{refused-given}
 use Rattle.items.specs.Read.{sought as seen}
-use Rattle.items.specs.State.{lies_in, key_of}
+use Rattle.items.specs.State.{lies_in}
+use Rattle.items.specs.Key.{name_in, key_of}
 use Rattle.items.specs.Items.{entries_of, sought_of}
 use Rattle.items.specs.Laws.{OwnItem, EntryItem}
 use Rattle.items.specs.declared.walk.Item.{Item}
@@ -42,16 +42,14 @@ the-list false k l e = cc
 
 module _ (s : List ℕ) (n : RecordNumber) (look : RecordNumber → Option (List ℕ)) (i : Item) where
   some-by : (x : EntryItem s n look i) (room : ℕ) → IsSome (parts_in s n look room (Some x.list))
-  unfolding parts_in parts_from parts_by
+  unfolding parts_in parts_from
   some-by x room =
       let e = x.by in
-      let own : eqb e.instance e.instance ≡ true = eq-eqb e.instance e.instance refl in
-      let like : eqb e.ty e.ty ≡ true = eq-eqb e.ty e.ty refl in
       let known = x.known in
       let from = x.list.from in
-      let rest = parts_by s n look (key_of e) (room - 1) (entries_of s n x.list.to (from + e.length))
-      (from + e.length) in
-      rw (first_entry s n x.list e (sym x.stands), own, known, like)
+      let rest = parts_by s n look (key_of e (name_in s x.list e)) x.list.to (room - 1)
+      (entries_of s n x.list.to (from + e.length)) (from + e.length) in
+      rw (first_entry s n x.list e (sym x.stands), known)
       (or-refused (ltb 0 room) (reading (map (seen e.file) (sought_of s n look e from).read)
       (giving from (part_of s n look e from) rest)) (refusal NoRoom n from)
       (giving-some from (part_of s n look e from) rest))

@@ -1,6 +1,6 @@
 -- RULES 15: the parts of a non-resident item found by an entry: by that entry and those directly behind it, over
 -- what the entries of its list are.
-use Rattle.std.specs.Prelude.{ℕ, ◌+◌, ◌-◌, List, [], ◌∷◌, ◌++◌, map, length, eqb, ltb, Option, Some, None}
+use Rattle.std.specs.Prelude.{ℕ, ◌+◌, ◌-◌, List, [], ◌∷◌, ◌++◌, map, length, ltb, Option, Some, None}
 use Rattle.fields.specs.Pick.{pick}
 use Rattle.fields.specs.Answer.{Outcome, gives, refuses, refusal}
 use Rattle.fields.specs.Known.{known_type}
@@ -8,10 +8,11 @@ use Rattle.fields.specs.declared.RecordNumber.{RecordNumber}
 use Rattle.fields.specs.declared.Cause.TheVariants.{NoRoom, UnknownType, BadState}
 use Rattle.list.specs.declared.Entry.{Entry}
 use Rattle.items.specs.Read.{Read, sought, joined}
-use Rattle.items.specs.State.{lies_in, key_of}
+use Rattle.items.specs.State.{lies_in, list_at}
+use Rattle.items.specs.Key.{name_in, key_of, continues}
 use Rattle.items.specs.Items.{entries_of, sought_of}
 use Rattle.items.specs.declared.walk.Rest.{Rest}
-use Rattle.items.specs.declared.walk.Key.{Key}
+use Rattle.items.specs.declared.key.Key.{Key}
 use Rattle.parts.specs.Part.{part_of}
 use Rattle.parts.specs.declared.Part.{Part}
 
@@ -38,34 +39,40 @@ giving place (gives p) behind = record behind { given = record { place = place; 
 giving place (refuses r) behind = stops (refuses r)
 
 module _ (s : List ℕ) (n : RecordNumber) (look : RecordNumber → Option (List ℕ)) where
-  -- entries with the instance and type of the first go on; where the instance agrees and the type is unknown: 6; 20
-  -- comes before the lookup
-  unfoldable pub parts_by : Key → ℕ → List (Outcome Entry) → ℕ → Parts
-  parts_by key room [] from = stops (gives tt)
-  parts_by key room (refuses r ∷ es) from = stops (refuses r)
-  parts_by key room (gives e ∷ es) from =
+  -- the part by the entry at a place and those behind it, where there is room; 20 comes before the lookup
+  abbrev pub taking : ℕ → Entry → ℕ → Parts → Parts
+  taking room e from behind =
+      pick (ltb 0 room)
+      (reading (map (sought e.file) (sought_of s n look e from).read) (giving from (part_of s n look e from) behind))
+      (stops (refuses (refusal NoRoom n from)))
+
+  -- the parts by the entries behind the first, in a list that ends at `to`: an entry that does not continue the stream
+  -- of the first one's key ends them, one of unknown type too
+  unfoldable pub parts_by : Key → ℕ → ℕ → List (Outcome Entry) → ℕ → Parts
+  parts_by key to room [] from = stops (gives tt)
+  parts_by key to room (refuses r ∷ es) from = stops (refuses r)
+  parts_by key to room (gives e ∷ es) from =
       reading (joined from e ∷ [])
-      (pick (eqb e.instance key.instance)
-      (pick (known_type e.ty)
-      (pick (eqb e.ty key.ty)
-      (pick (ltb 0 room)
-      (reading (map (sought e.file) (sought_of s n look e from).read)
-      (giving from (part_of s n look e from) (parts_by key (room - 1) es (from + e.length))))
-      (stops (refuses (refusal NoRoom n from))))
-      (stops (gives tt)))
-      (stops (refuses (refusal UnknownType n from))))
+      (pick (continues key e (name_in s (list_at from to) e))
+      (taking room e from (parts_by key to (room - 1) es (from + e.length)))
       (stops (gives tt)))
 
-  -- the first entry tells the key; a place where none is given makes no parts
-  unfoldable pub parts_from : ℕ → List (Outcome Entry) → ℕ → Parts
-  parts_from room [] from = stops (gives tt)
-  parts_from room (refuses r ∷ es) from = stops (refuses r)
-  parts_from room (gives e ∷ es) from = parts_by (key_of e) room (gives e ∷ es) from
+  -- the first entry is judged by its type alone: 6 where that is unknown; it tells the key. A place where none is given
+  -- makes no parts
+  unfoldable pub parts_from : ℕ → ℕ → List (Outcome Entry) → ℕ → Parts
+  parts_from to room [] from = stops (gives tt)
+  parts_from to room (refuses r ∷ es) from = stops (refuses r)
+  parts_from to room (gives e ∷ es) from =
+      reading (joined from e ∷ [])
+      (pick (known_type e.ty)
+      (taking room e from
+      (parts_by (key_of e (name_in s (list_at from to) e)) to (room - 1) es (from + e.length)))
+      (stops (refuses (refusal UnknownType n from))))
 
   -- an item of the raw walk has no parts
   unfoldable pub parts_in : ℕ → Option Rest → Parts
   parts_in room None = stops (gives tt)
-  parts_in room (Some l) = parts_from room (entries_of s n l.to l.from) l.from
+  parts_in room (Some l) = parts_from l.to room (entries_of s n l.to l.from) l.from
 
   -- 22 comes before the steps
   unfoldable pub parts_of : ℕ → Option Rest → Parts

@@ -2,7 +2,7 @@
 ghost use Rattle.fields.specs.Laws.{Settles};
 ghost use Rattle.parts.specs.Filled.{collected};
 ghost use Rattle.parts.specs.Laws.{FilledSettle, PartsInFront, PartsFit, RoomSuffices, WholePartsAreSome};
-ghost use Rattle.parts.specs.Laws.{PartsAreFoundAgain};
+ghost use Rattle.parts.specs.Laws.{PartsAreOneStream, PartsAreFoundAgain};
 
 /// A call whose contract states what it reports leaves one list and has one result at most (RULES 2, 17).
 pub fn results_settle()
@@ -25,6 +25,11 @@ pub fn room_suffices()
 /// Parts of an item that tells a list are refused, or are at least one (RULES 15).
 pub fn whole_parts_are_some()
     ensures { WholePartsAreSome }
+{}
+
+/// The parts by a list are of one stream, in its order, and whole ones leave none out (RULES 15.2).
+pub fn parts_are_one_stream()
+    ensures { PartsAreOneStream }
 {}
 
 /// The record of each part is found again by its number, and the part's run bytes lie inside it (RULES 15).

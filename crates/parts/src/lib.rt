@@ -3,20 +3,24 @@
 
 pub mod laws;
 
-ghost use Rattle.std.specs.Prelude.{◌≡◌, ◌-◌, ◌*◌, ◌≤◌, min, length};
+ghost use Rattle.std.specs.Prelude.{◌≡◌, ◌+◌, ◌-◌, ◌*◌, ◌≤◌, min, length};
+ghost use Rattle.fields.specs.Answer.{gives};
 ghost use Rattle.fields.specs.Told.{told, told_report};
 ghost use Rattle.record.specs.Told.{shown_record};
+ghost use Rattle.list.specs.Entry.{entry_of};
+ghost use Rattle.items.specs.State.{rest_of};
+ghost use Rattle.items.specs.Key.{key_of, name_in};
 ghost use Rattle.items.specs.Lies.{Lies};
 ghost use Rattle.items.specs.OfFile.{of_file};
 ghost use Rattle.items.specs.Bounds.{size_of};
 ghost use Rattle.parts.specs.Part.{part_in};
 ghost use Rattle.parts.specs.Parts.{parts_of};
-ghost use Rattle.parts.specs.OfFile.{part_at, parts_keyed, parts_behind, ended};
+ghost use Rattle.parts.specs.OfFile.{part_at, parts_begun, parts_behind, ended};
 ghost use Rattle.parts.specs.Filled.{told_parts, filled, most_parts, blank_parts, collected};
 
 use fields::{Cause, Counted, RecordNumber, Refusal, Vcn, known_type};
 use items::{File, Key, Rest};
-use list::Entry;
+use list::{Entry, NamedEntry};
 use record::{FullHeader, Located, Span};
 
 /// A part: the record that holds it, its attribute's offset there, its own lowest VCN, where its run bytes stand in
@@ -109,39 +113,27 @@ fn part_by(file: &File, e: &Entry, place: usize) -> Counted<Part>
     }
 }
 
-// The parts by the entries that go on with the stream of a key, from a list's front on.
+// The parts by the first entry of a list, whose type is known, and by those directly behind it while each continues its
+// stream.
 #[tactic(auto, using(crate::proofs::Steps::steps))]
-fn fill_inside(file: &File, from: Rest, key: Key, list: &mut [Part]) -> Filled
-    requires { Lies (size_of file.now) from }
-    ensures parts { filled list.new result ≡ told_parts list.old (parts_keyed file.now key (length list.old) from) }
+fn fill_inside(file: &File, from: Rest, first: &NamedEntry, list: &mut [Part]) -> Filled
+    requires lies { Lies (size_of file.now) from }
+    requires stands { gives first.now.entry ≡ entry_of (rest_of file.now.base.bytes.now from)
+        file.now.base.number from.from }
+    ensures parts { filled list.new result ≡ told_parts list.old (parts_begun file.now
+        (key_of first.now.entry first.now.name.now) (length list.old) from first.now.entry) }
     ensures fits { result.count ≤ length list.old }
     ensures size { length list.new ≡ length list.old }
-    ensures few { result.reads ≤ 257 * (from.to - from.from) }
+    ensures few { 1 + result.reads ≤ 257 * (from.to - from.from) }
 {
     let number = file.base.number;
+    let key = Key::of(first);
     // A loop that counts, and no iterator: 20 comes before the lookup, and each way out tells the count and the reads.
     let mut at = from;
+    let mut e = first.entry;
     let mut count: usize = 0;
     let mut reads: u64 = 0;
     let answer = 'entries: loop {
-        let rest = &file.base.bytes[at.from..at.to];
-        let e = match list::header(rest, number, at.from) {
-            Ok(Some(e)) => e,
-            Ok(None) => break 'entries Ok(()),
-            Err(r) => break 'entries Err(r),
-        };
-        reads += 1;
-        // Not one comparison of keys: an unknown type is 6 only where the instance agrees, and before the types are
-        // compared.
-        if e.instance != key.instance {
-            break 'entries Ok(());
-        }
-        if !known_type(e.ty) {
-            break 'entries file.base.refused(Cause::UnknownType, at.from);
-        }
-        if e.ty != key.ty {
-            break 'entries Ok(());
-        }
         if count == list.len() {
             break 'entries file.base.refused(Cause::NoRoom, at.from);
         }
@@ -154,6 +146,17 @@ fn fill_inside(file: &File, from: Rest, key: Key, list: &mut [Part]) -> Filled
         list[count] = next;
         count += 1;
         at.from += e.length;
+        let rest = &file.base.bytes[at.from..at.to];
+        let named = match list::named(rest, number, at.from) {
+            Ok(Some(named)) => named,
+            Ok(None) => break 'entries Ok(()),
+            Err(r) => break 'entries Err(r),
+        };
+        reads += 1;
+        if !key.is_continued_by(&named) {
+            break 'entries Ok(());
+        }
+        e = named.entry;
     };
     Filled {
         count,
@@ -163,17 +166,17 @@ fn fill_inside(file: &File, from: Rest, key: Key, list: &mut [Part]) -> Filled
 }
 
 // Ended before the first part.
-fn none(answer: Result<(), Refusal>) -> Filled
-    ensures { result ≡ ended answer }
+fn none(answer: Result<(), Refusal>, reads: u64) -> Filled
+    ensures { result ≡ ended answer reads }
 {
     Filled {
         count: 0,
         answer,
-        reads: 0,
+        reads,
     }
 }
 
-// The parts by a list inside the record: its first entry tells the key.
+// The parts by a list inside the record: its first entry is judged by its type alone, and counts one read.
 #[tactic(auto, using(crate::proofs::Steps::fronts))]
 fn fill_from(file: &File, from: Rest, list: &mut [Part]) -> Filled
     requires { Lies (size_of file.now) from }
@@ -183,10 +186,19 @@ fn fill_from(file: &File, from: Rest, list: &mut [Part]) -> Filled
     ensures few { result.reads ≤ 257 * (from.to - from.from) }
 {
     let front = &file.base.bytes[from.from..from.to];
-    match list::header(front, file.base.number, from.from) {
-        Ok(Some(e)) => fill_inside(file, from, Key::of(&e), list),
-        Ok(None) => none(Ok(())),
-        Err(r) => none(Err(r)),
+    let first = match list::named(front, file.base.number, from.from) {
+        Ok(Some(first)) => first,
+        Ok(None) => return none(Ok(()), 0),
+        Err(r) => return none(Err(r), 0),
+    };
+    if !known_type(first.entry.ty) {
+        return none(file.base.refused(Cause::UnknownType, from.from), 1);
+    }
+    let filled = fill_inside(file, from, &first, list);
+    Filled {
+        count: filled.count,
+        answer: filled.answer,
+        reads: 1 + filled.reads,
     }
 }
 
@@ -202,9 +214,9 @@ pub fn fill(file: &File, rest: Option<Rest>, list: &mut [Part]) -> Filled
     match file.inside(rest) {
         Ok(()) => match rest {
             Some(from) => fill_from(file, from, list),
-            None => none(Ok(())),
+            None => none(Ok(()), 0),
         },
-        Err(r) => none(Err(r)),
+        Err(r) => none(Err(r), 0),
     }
 }
 

@@ -10,7 +10,6 @@ use Rattle.report.specs.declared.line.Line.{Line}
 use Rattle.report.specs.declared.line.Line.TheVariants as line
 use Rattle.report.specs.declared.made.Source.{Source}
 use Rattle.report.specs.declared.made.Source.TheVariants as source
-use Rattle.report.specs.declared.made.Stepped.{Stepped}
 use Rattle.report.specs.declared.made.Lines.{Lines}
 
 -- with the parts of the last item of a listing, which stand in a lent list
@@ -28,6 +27,3 @@ rest ps l = option_to_list l.first ++ (option_to_list l.second ++ source_rest ps
 -- a line and what comes behind it, or that none is to come, now and later
 abbrev pub Gives : List Line → Option Line → List Line → Type 0
 Gives ls r ms = MatchOption r ((ls ≡ []) × (ms ≡ [])) (λ x. ls ≡ x ∷ ms)
-
-abbrev pub Steps : List Part → Source → List Part → Stepped → Type 0
-Steps ps s qs r = Gives (source_rest ps s) r.line (source_rest qs r.left)

@@ -12,5 +12,5 @@ mod write;
 
 pub use form::Form;
 pub use line::{Line, State};
-pub use made::{Lines, Source, Stepped};
+pub use made::{Lines, Source};
 pub use write::{write_numbered, write_record, write_rows, write_table};

@@ -28,13 +28,6 @@ pub enum Source<'a> {
     Attributes(Record<'a>, Option<Runs<'a>>, Attributes<'a>),
 }
 
-/// A line, if one is to come, and where the next one comes from.
-#[derive(Clone, Copy)]
-pub struct Stepped<'a> {
-    pub line: Option<Line>,
-    pub left: Source<'a>,
-}
-
 /// The lines of a report that are still to come.
 #[derive(Clone, Copy)]
 pub struct Lines<'a> {
@@ -55,99 +48,94 @@ fn row_line(row: Row, bytes: &[u8]) -> Line
 }
 
 // A line of a listing.
-fn step_listing<'a>(mut listing: lines::Lines<'a>, parts: &mut [Part]) -> Stepped<'a>
-    ensures { Gives (map (λ x. line.Listed x) (listings.rest parts.old listing.entry)) result.line
-        (source_rest parts.new result.left) }
+fn step_listing(listing: &mut lines::Lines, parts: &mut [Part]) -> Option<Line>
+    ensures { Gives (map (λ x. line.Listed x) (listings.rest parts.old listing.old)) result
+        (map (λ x. line.Listed x) (listings.rest parts.new listing.new)) }
 {
     match listing.next(parts) {
-        Some(line) => Stepped {
-            line: Some(Line::Listed(line)),
-            left: Source::Listing(listing),
-        },
-        None => Stepped {
-            line: None,
-            left: Source::Done,
-        },
-    }
-}
-
-// A row's line, or how many there were.
-fn step_rows<'a>(mut rows: EachRow<'a>, count: usize) -> Stepped<'a>
-    ensures { (ps : List Part) →
-        Gives (rows_behind (tables.rest rows.entry) count) result.line (source_rest ps result.left) }
-{
-    match rows.next() {
-        Some((row, bytes)) => Stepped {
-            line: Some(row_line(row, bytes)),
-            left: Source::Rows(rows, count),
-        },
-        None => Stepped {
-            line: Some(Line::Rows { count }),
-            left: Source::Done,
-        },
-    }
-}
-
-// An attribute's line with its runs to come, or how the walk ended.
-#[tactic(auto, unfolding(crate::specs::Record::walk_lines))]
-fn step_attributes<'a>(within: Record<'a>, mut attributes: Attributes<'a>) -> Stepped<'a>
-    ensures { (ps : List Part) → Gives (walk_lines within.entry.bytes.now within.entry.number
-        (records.rest attributes.entry)) result.line (source_rest ps result.left) }
-{
-    match attributes.next() {
-        Some(Ok(attribute)) => {
-            let raw = raw_line(&within, &attribute);
-            Stepped {
-                line: Some(Line::Listed(raw.line)),
-                left: Source::Attributes(within, raw.runs, attributes),
-            }
-        }
-        Some(Err(r)) => Stepped {
-            line: Some(Line::Stopped(r.cause)),
-            left: Source::Done,
-        },
-        None => Stepped {
-            line: Some(Line::End),
-            left: Source::Done,
-        },
-    }
-}
-
-// A run of the line before, or what the walk gives.
-fn step_record<'a>(
-    within: Record<'a>,
-    mut runs: Option<Runs<'a>>,
-    attributes: Attributes<'a>,
-) -> Stepped<'a>
-    ensures { (ps : List Part) → Gives (map (λ x. line.Listed x) (listings.runs_rest runs.entry)
-        ++ walk_lines within.entry.bytes.now within.entry.number (records.rest attributes.entry))
-        result.line (source_rest ps result.left) }
-{
-    match next_run(&mut runs) {
-        Some(line) => Stepped {
-            line: Some(Line::Listed(line)),
-            left: Source::Attributes(within, runs, attributes),
-        },
-        None => step_attributes(within, attributes),
+        Some(line) => Some(Line::Listed(line)),
+        None => None,
     }
 }
 
 impl<'a> Source<'a> {
-    ghost use Rattle.report.specs.Rest.{Steps};
+    ghost use Rattle.report.specs.Rest.{Gives, source_rest};
+
+    // A row's line, or how many there were.
+    fn step_rows(&mut self, mut rows: EachRow<'a>, count: usize) -> Line
+        ensures { (ps : List Part) →
+            rows_behind (tables.rest rows.entry) count ≡ result ∷ source_rest ps self.new }
+    {
+        match rows.next() {
+            Some((row, bytes)) => {
+                *self = Source::Rows(rows, count);
+                row_line(row, bytes)
+            }
+            None => {
+                *self = Source::Done;
+                Line::Rows { count }
+            }
+        }
+    }
+
+    // An attribute's line with its runs to come, or how the walk ended.
+    #[tactic(auto, unfolding(crate::specs::Record::walk_lines))]
+    fn step_attributes(&mut self, within: Record<'a>, mut attributes: Attributes<'a>) -> Line
+        ensures { (ps : List Part) → walk_lines within.entry.bytes.now within.entry.number
+            (records.rest attributes.entry) ≡ result ∷ source_rest ps self.new }
+    {
+        match attributes.next() {
+            Some(Ok(attribute)) => {
+                let raw = raw_line(&within, &attribute);
+                *self = Source::Attributes(within, raw.runs, attributes);
+                Line::Listed(raw.line)
+            }
+            Some(Err(r)) => {
+                *self = Source::Done;
+                Line::Stopped(r.cause)
+            }
+            None => {
+                *self = Source::Done;
+                Line::End
+            }
+        }
+    }
+
+    // A run of the line before, or what the walk gives.
+    fn step_record(
+        &mut self,
+        within: Record<'a>,
+        mut runs: Option<Runs<'a>>,
+        attributes: Attributes<'a>,
+    ) -> Line
+        ensures { (ps : List Part) → map (λ x. line.Listed x) (listings.runs_rest runs.entry)
+            ++ walk_lines within.entry.bytes.now within.entry.number (records.rest attributes.entry)
+            ≡ result ∷ source_rest ps self.new }
+    {
+        match next_run(&mut runs) {
+            Some(line) => {
+                *self = Source::Attributes(within, runs, attributes);
+                Line::Listed(line)
+            }
+            None => self.step_attributes(within, attributes),
+        }
+    }
 
     /// The next line: a listing's, a row's, an attribute's or a run's, and behind the last of these how many rows there
-    /// were, or how the walk ended. The list is lent as in a listing.
-    pub fn step(self, parts: &mut [Part]) -> Stepped<'a>
-        ensures { Steps parts.old self.entry parts.new result }
+    /// were, or how the walk ended. The list is lent as in a listing. The source is moved on in place: a listing holds a
+    /// walk's state, which has a name's 510 bytes.
+    pub fn step(&mut self, parts: &mut [Part]) -> Option<Line>
+        ensures { Gives (source_rest parts.old self.old) result (source_rest parts.new self.new) }
     {
-        match self {
-            Source::Done => Stepped {
-                line: None,
-                left: Source::Done,
-            },
-            Source::Listing(listing) => step_listing(listing, parts),
-            Source::Rows(rows, count) => step_rows(rows, count),
-            Source::Attributes(within, runs, attributes) => step_record(within, runs, attributes),
+        if let Source::Listing(listing) = self {
+            return step_listing(listing, parts);
+        }
+        match *self {
+            Source::Rows(rows, count) => Some(self.step_rows(rows, count)),
+            Source::Attributes(within, runs, attributes) => {
+                Some(self.step_record(within, runs, attributes))
+            }
+            _ => None,
         }
     }
 }
@@ -238,8 +226,6 @@ impl<'a> Lines<'a> {
             self.second = None;
             return Some(line);
         }
-        let stepped = self.source.step(parts);
-        self.source = stepped.left;
-        stepped.line
+        self.source.step(parts)
     }
 }

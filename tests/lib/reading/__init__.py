@@ -7,14 +7,15 @@ told besides, `directory` (rows), `single` (one record) and `objects` (JSON). Ap
 and in `listing`: they are the rules' longest tale, told by two who share nothing of it but the attribute, the entry and
 the search.
 
-`without_used_sizes` turns 27 and 28 off, so that it can be told what they alone decide.
+`without_used_sizes` turns 27 and 28 off, so that it can be told what they alone decide. `joined_by_instance` joins
+entries as they were joined before, by type and instance.
 
 In the modules on records, entries, runs and tables a refusal is raised; in those on walks it is a value, since a
 walk goes on behind it. An end is None, everything else is returned. Offsets that an answer tells of count from the
 record's start.
 """
 from .answers import Attribute, Entry, Header, NonResident, Refusal, Resident, Runs, Span, TableHeader
-from .entries import entry, entry_name
+from .entries import MOST_NAME, entry, entry_name, joined_by_instance
 from .record import (
     ATTRIBUTE_FLAGS, KNOWN, LIST, MARKER, attribute_at, find, first_place, full, header, name, opened_list, opening,
     step, used_size, value, view, walk, without_used_sizes,

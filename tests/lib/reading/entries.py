@@ -1,9 +1,29 @@
 """A second reading of the rules on the entries of a list (RULES 9)."""
+import contextlib
+import contextvars
 import struct
 
 from .answers import Entry, Refusal
 
 ENTRY = struct.Struct("<IHBBQQH")
+
+# How many bytes the longest name has: 255 units.
+MOST_NAME = 510
+
+
+# Whether entries are joined by type and instance, as they were before they were by type and name, and as the Rust joins
+# them. What is read differently then is what the other rule decides.
+BY_INSTANCE = contextvars.ContextVar("entries are joined by type and instance", default=False)
+
+
+@contextlib.contextmanager
+def joined_by_instance():
+    """Entries are joined by type and instance in all that is read inside this block."""
+    before = BY_INSTANCE.set(True)
+    try:
+        yield
+    finally:
+        BY_INSTANCE.reset(before)
 
 
 def entry(rest, base, place):
@@ -31,4 +51,4 @@ def entry(rest, base, place):
 def entry_name(rest, given):
     """The entry's name in 510 bytes, zeros behind it; all zeros where no entry is given."""
     name = bytes(rest[26:26 + 2 * given.units]) if isinstance(given, Entry) else b""
-    return name.ljust(510, b"\0")
+    return name.ljust(MOST_NAME, b"\0")

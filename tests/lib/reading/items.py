@@ -5,7 +5,7 @@ A refusal is a value here, since a walk goes on behind it. Each call answers (an
 from typing import NamedTuple
 
 from .answers import Attribute, Refusal
-from .entries import entry
+from .entries import BY_INSTANCE, MOST_NAME, entry, entry_name
 from .record import KNOWN, LIST, find, first_place, opened_list, opening, raw_step
 from .table import check_table, found
 from .table import rows as rows_of
@@ -20,9 +20,14 @@ class Rest(NamedTuple):
 
 
 class Key(NamedTuple):
+    """What is being skipped: whether there is a key; a type, and a name of so many units with what stands behind it,
+    510 bytes in all. The instance is of the older rule alone, which has no name."""
+
     there: bool
     ty: int
-    instance: int
+    units: int
+    name: bytes
+    instance: int = 0
 
 
 class State(NamedTuple):
@@ -44,7 +49,7 @@ class Table(NamedTuple):
 
 
 NO_LIST = Rest(False, 0, 0)
-NO_KEY = Key(False, 0, 0)
+NO_KEY = Key(False, 0, 0, bytes(MOST_NAME))
 
 
 def table_of(table):
@@ -61,6 +66,25 @@ def base_of(table):
         return None
     numbers = list(t.rows)
     return (numbers[t.base], t.rows[numbers[t.base]]) if t.base < len(numbers) else None
+
+
+# What joins entries.
+
+def key_of(e, name):
+    """The key that an entry leaves: its type and its name, zero behind that."""
+    if BY_INSTANCE.get():
+        return NO_KEY._replace(there=True, ty=e.ty, instance=e.instance)
+    return Key(True, e.ty, e.units, name)
+
+
+def continues(e, name, key):
+    """Whether an entry continues the stream of a key: of its type and its name, and its own lowest VCN is not 0 (RULES
+    14)."""
+    if BY_INSTANCE.get():
+        return (e.ty, e.instance) == (key.ty, key.instance)
+    # the bytes of a key past its own name are not compared, and there may be fewer of them than its units say
+    told = 2 * e.units
+    return (e.ty, e.units, name[:told]) == (key.ty, key.units, key.name[:told]) and e.lowest != 0
 
 
 # Items.
@@ -81,7 +105,8 @@ def in_list(record, number, rows, state):
     (RULES 14)."""
     raw, here, key = state
     try:
-        e = entry(record[here.start:here.end], number, here.start)
+        text = record[here.start:here.end]
+        e = entry(text, number, here.start)
     except Refusal as refusal:
         # 14, 15, 16: the state stays at that entry
         return refusal, state, 0
@@ -94,7 +119,8 @@ def in_list(record, number, rows, state):
     if e.ty not in KNOWN:
         return Refusal(6, number, here.start), State(raw, rest, key), 1
     # then the two that pass over
-    if e.file == number or key == (True, e.ty, e.instance):
+    name = entry_name(text, e)
+    if e.file == number or key.there and continues(e, name, key):
         return False, State(raw, rest, key), 1
     # from here on every refusal leaves the state past the entry, without a key
     past = State(raw, rest, NO_KEY)
@@ -105,10 +131,10 @@ def in_list(record, number, rows, state):
     reads, a = find(other, e.file, e.ty, e.instance, number, here.start)
     if isinstance(a, Refusal):
         return a, past, 1 + reads
-    # a non-resident one leaves its key, and tells its list from its entry on
+    # a non-resident one leaves its entry's key, and tells its list from its entry on
     if a.resident:
         return Item(e.file, a, NO_LIST), past, 1 + reads
-    return Item(e.file, a, here), State(raw, rest, Key(True, e.ty, e.instance)), 1 + reads
+    return Item(e.file, a, here), State(raw, rest, key_of(e, name)), 1 + reads
 
 
 def in_record(record, number, state):

@@ -6,7 +6,7 @@ to that reading, those of the listing to this one, and where both pass two readi
 from typing import NamedTuple
 
 from .answers import Refusal, Span
-from .entries import entry
+from .entries import BY_INSTANCE, ENTRY, entry
 from .items import fresh, next_in, table_of
 from .record import CONSULTED, KNOWN, find, full_of, name, number_at, value
 from .runs import all_runs
@@ -65,6 +65,13 @@ def part_of(record, number, rows, e, place):
     return reads, Part(e.file, a.offset, f.lowest, a.offset + f.runs, a.length - f.runs, f.size)
 
 
+def stream_of(record, e, at):
+    """What the entries of one stream have alike: the type and the name (RULES 14)."""
+    if BY_INSTANCE.get():
+        return e.ty, e.instance
+    return e.ty, bytes(record[at + ENTRY.size:at + ENTRY.size + 2 * e.units])
+
+
 def parts_of(record, number, rows, rest, room=ROOM):
     """The parts of a non-resident item found by the entry that begins `rest`: (parts, refusal or None, reads).
 
@@ -82,11 +89,14 @@ def parts_of(record, number, rows, rest, room=ROOM):
             return out, None, reads
         # RULES 17: the entry that ends the parts counts too
         reads += 1
-        first = e if first is None else first
-        # 6 where the instance agrees and the type is unknown: so a first entry of unknown type is 6
-        if e.instance == first.instance and e.ty not in KNOWN:
+        # a first entry of unknown type is 6; by the older rule one behind it too, of the first one's instance
+        if e.ty not in KNOWN and (first is None or BY_INSTANCE.get() and first[1] == e.instance):
             return out, Refusal(6, number, at), reads
-        if (e.instance, e.ty) != (first.instance, first.ty):
+        stream = stream_of(record, e, at)
+        if first is None:
+            # whatever its own lowest VCN is
+            first = stream
+        elif stream != first or e.lowest == 0 and not BY_INSTANCE.get():
             return out, None, reads
         # 20 comes before the lookup
         if len(out) == room:

@@ -6,8 +6,8 @@ listing's parts are read in listing.py by themselves, and share nothing with the
 from typing import NamedTuple
 
 from .answers import Refusal
-from .entries import entry
-from .items import Item, fresh, next_in, opened, within
+from .entries import BY_INSTANCE, entry, entry_name
+from .items import Item, continues, fresh, key_of, next_in, opened, within
 from .record import KNOWN, find, full_of, runs_of
 from .table import found
 
@@ -50,23 +50,27 @@ def looked_up(record, number, rows, e, place):
     return reads, Part(e.file, a.offset, f.lowest, *runs, e.lowest)
 
 
-def goes_on(e, first):
-    """Whether an entry is one more of the parts that begin with `first`, or None where it refuses by 6 (RULES 15)."""
-    # those directly behind while instance and type agree; 6 where the instance agrees and the type is unknown, so
-    # also at a first entry of unknown type
-    if e.instance != first.instance:
-        return False
-    return e.ty == first.ty if e.ty in KNOWN else None
+def goes_on(e, name, key):
+    """Whether an entry is one more of the parts, or None where it refuses by 6 (RULES 15). The key is that of the first
+    entry, which is judged apart: it has none to go by."""
+    # an unknown type is 6 at the first entry; behind it, it is no first entry's type, and ends the parts
+    if key is None:
+        return True if e.ty in KNOWN else None
+    # by the older rule it is 6 there too where the instance agrees
+    if BY_INSTANCE.get() and e.instance == key.instance and e.ty not in KNOWN:
+        return None
+    return continues(e, name, key)
 
 
 def parts_in(record, number, rows, rest, room=ROOM):
     """One call, behind the opening checks."""
-    parts, reads, first, at = [], 0, None, rest.start
+    parts, reads, key, at = [], 0, None, rest.start
     # an item that tells no list has none
     while rest.there:
         # 14, 15, 16
         try:
-            e = entry(record[at:rest.end], number, at)
+            text = record[at:rest.end]
+            e = entry(text, number, at)
         except Refusal as refusal:
             return parts, refusal, reads
         # where no entry is given the parts are whole
@@ -74,12 +78,13 @@ def parts_in(record, number, rows, rest, room=ROOM):
             break
         # the entry that ends the parts counts too (RULES 17)
         reads += 1
-        first = first or e
-        more = goes_on(e, first)
+        name = entry_name(text, e)
+        more = goes_on(e, name, key)
         if more is None:
             return parts, Refusal(6, number, at), reads
         if not more:
             break
+        key = key or key_of(e, name)
         # 20 comes before the lookup
         if len(parts) >= room:
             return parts, Refusal(20, number, at), reads

@@ -7,26 +7,27 @@ use Rattle.items.proofs.File.next_inside.Goals as goal
 
 pub overflow_add-at : goal.overflow_add-at
 overflow_add-at c =
-    let w = entry_room _ _ c.in-Some.list _ (rw c.in-Ok-Some.field-0-is at c.in-Ok-Some.ensures) in let x = w.most in
+    let w = entry_room _ _ c.in-Some.list _ (rw c.in-Ok-Some.field-0-is at c.in-Ok-Some.ensures.answer) in let x = w.most in
     let l = rw c.in-Some.is at c.entries.invariant.lies in let y = l.most in
     let z = c.args.self.now.base.most in
     omega arith
 
 pub entries-smaller : goal.entries-smaller
 entries-smaller c =
-    let w = entry_room _ _ c.in-Some.list _ (rw c.in-Ok-Some.field-0-is at c.in-Ok-Some.ensures) in
+    let w = entry_room _ _ c.in-Some.list _ (rw c.in-Ok-Some.field-0-is at c.in-Ok-Some.ensures.answer) in
     let x = w.least in let y = w.most in
     let q = ap left_in c.in-Some.is in
     omega arith
 
 pub entries-preserved : goal.entries-preserved
 entries-preserved c =
-    let g = rw c.in-Ok-Some.field-0-is at c.in-Ok-Some.ensures in
+    let g = rw c.in-Ok-Some.field-0-is at c.in-Ok-Some.ensures.answer in
     let w = entry_room _ _ c.in-Some.list _ g in let x = w.least in let y = w.most in
     let l = rw c.in-Some.is at c.entries.invariant.lies in let u = l.order in let v = l.most in
     let q = ap left_in c.in-Some.is in
     record {
-      same = entry_passed _ _ _ _ _ _ _ c.entries.invariant.same _ c.in-Some.is _ g (sym c.if-not-known_type.ensures)
+      same = entry_passed _ _ _ _ _ _ _ c.entries.invariant.same _ c.in-Some.is _ g _
+          (rw c.in-Ok-Some.field-0-is at c.in-Ok-Some.ensures.name) (sym c.if-not-known_type.ensures)
           (sym c.if-passes_over.ensures);
       lies = record { order = omega arith; most = omega arith };
       paid = omega arith;
@@ -75,14 +76,14 @@ raw-preserved c =
 
 pub returns-then-attribute-clause-lower : goal.returns-then-attribute-clause-lower
 returns-then-attribute-clause-lower c =
-    let w = entry_room _ _ c.in-Some.list _ (rw c.in-Ok-Some.field-0-is at c.in-Ok-Some.ensures) in
+    let w = entry_room _ _ c.in-Some.list _ (rw c.in-Ok-Some.field-0-is at c.in-Ok-Some.ensures.answer) in
     let x = w.least in let y = w.most in
     let q = ap left_in c.in-Some.is in
     omega arith
 
 pub returns-else-attribute-clause-lower : goal.returns-else-attribute-clause-lower
 returns-else-attribute-clause-lower c =
-    let w = entry_room _ _ c.in-Some.list _ (rw c.in-Ok-Some.field-0-is at c.in-Ok-Some.ensures) in
+    let w = entry_room _ _ c.in-Some.list _ (rw c.in-Ok-Some.field-0-is at c.in-Ok-Some.ensures.answer) in
     let x = w.least in let y = w.most in
     let q = ap left_in c.in-Some.is in
     omega arith
@@ -95,28 +96,28 @@ returns-then-attribute-ne-ATTRIBUTE_LIST-clause-lower c =
 
 pub returns-then-not-known_type-clause-paid : goal.returns-then-not-known_type-clause-paid
 returns-then-not-known_type-clause-paid c =
-    let w = entry_room _ _ c.in-Some.list _ (rw c.in-Ok-Some.field-0-is at c.in-Ok-Some.ensures) in
+    let w = entry_room _ _ c.in-Some.list _ (rw c.in-Ok-Some.field-0-is at c.in-Ok-Some.ensures.answer) in
     let x = w.least in let y = w.most in
     let q = ap left_in c.in-Some.is in
     omega arith
 
 pub returns-in-Err-answer-clause-paid : goal.returns-in-Err-answer-clause-paid
 returns-in-Err-answer-clause-paid c =
-    let w = entry_room _ _ c.in-Some.list _ (rw c.in-Ok-Some.field-0-is at c.in-Ok-Some.ensures) in
+    let w = entry_room _ _ c.in-Some.list _ (rw c.in-Ok-Some.field-0-is at c.in-Ok-Some.ensures.answer) in
     let x = w.least in let y = w.most in
     let q = ap left_in c.in-Some.is in let f = c.sought-found.ensures.few in
     omega arith
 
 pub returns-then-attribute-clause-paid : goal.returns-then-attribute-clause-paid
 returns-then-attribute-clause-paid c =
-    let w = entry_room _ _ c.in-Some.list _ (rw c.in-Ok-Some.field-0-is at c.in-Ok-Some.ensures) in
+    let w = entry_room _ _ c.in-Some.list _ (rw c.in-Ok-Some.field-0-is at c.in-Ok-Some.ensures.answer) in
     let x = w.least in let y = w.most in
     let q = ap left_in c.in-Some.is in let f = c.sought-found.ensures.few in
     omega arith
 
 pub returns-else-attribute-clause-paid : goal.returns-else-attribute-clause-paid
 returns-else-attribute-clause-paid c =
-    let w = entry_room _ _ c.in-Some.list _ (rw c.in-Ok-Some.field-0-is at c.in-Ok-Some.ensures) in
+    let w = entry_room _ _ c.in-Some.list _ (rw c.in-Ok-Some.field-0-is at c.in-Ok-Some.ensures.answer) in
     let x = w.least in let y = w.most in
     let q = ap left_in c.in-Some.is in let f = c.sought-found.ensures.few in
     omega arith
