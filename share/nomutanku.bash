@@ -13,16 +13,17 @@ _nomutanku() {
         esac
     done
     case $command in
-    '') options='list rows record explain help --help --version' ;;
+    '') options='list rows record extract explain help --help --version' ;;
     list) options='--base --json --help' ;;
     rows) options='--json --help' ;;
     record) options='--number --json --help' ;;
+    extract) options='--size --first --from --count -o --help' ;;
     explain) options='--help' ;;
-    help) options='list rows record explain help' ;;
+    help) options='list rows record extract explain help' ;;
     esac
     case $before in
     # a number comes here, and no file
-    --base | --number) compopt +o default 2>/dev/null ;;
+    --base | --number | --size | --first | --from | --count) compopt +o default 2>/dev/null ;;
     *) mapfile -t COMPREPLY < <(compgen -W "$options" -- "$word") ;;
     esac
 }

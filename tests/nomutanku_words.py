@@ -7,15 +7,16 @@ from lib.on_nomutanku import REFUSED, TABLE_COMMANDS, Nomutanku
 from lib.reading import objects
 from lib.running import case, headed, kept, read
 
-FILE_SAID = "no table: it begins with FILE, as a raw record and an extract of the MFT do (21)"
+FILE_SAID = "no table: it begins with FILE, as raw records do: nomutanku extract makes a table of them (21)"
 USAGE_SAID = {
     "list": "nomutanku: name a table, or pipe one in: nomutanku list --help\n",
     "rows": "nomutanku: name a table, or pipe one in: nomutanku rows --help\n",
     "record": "nomutanku: name a record's file, or pipe one in: nomutanku record --help\n",
+    "extract": "nomutanku: name an extract, or pipe one in: nomutanku extract --help\n",
 }
 
 # the refusals there are (RULES 19)
-REFUSALS = range(1, 29)
+REFUSALS = (*range(1, 31), 34, 35, 44)
 
 
 def test_a_difference_is_noticed(test):
@@ -222,7 +223,7 @@ WRONG = (
     ("list", "--base", str(2 ** 64), "a"), ("explain",), ("explain", "x"), ("explain", "1", "2"),
     ("explain", "--json", "1"), ("list", "--json=1", "a"), ("list", "--number", "1", "a"), ("rows", "--base", "1", "a"),
     ("rows", "--number", "1", "a"), ("record", "--base", "1", "a"), ("record", "--number", "x", "a"),
-    ("record", "--number"), ("record", "--number", str(2 ** 64), "a"), ("record", "a", "b"),
+    ("record", "--number"), ("record", "--number", str(2 ** 64), "a"), ("record", "a", "b"), ("list", "-o", "a", "b"),
 )
 
 
@@ -239,6 +240,7 @@ def test_usage(test):
 NAMED = {
     "list": ("--base <N>", "--json", "[TABLE]..."), "rows": ("--json", "[TABLE]..."),
     "record": ("--number <N>", "--json", "[FILE]"), "explain": ("<N>",),
+    "extract": ("--size <N>", "--first <N>", "--from <POSITION>", "--count <N>", "-o <TABLE>", "[MFT]"),
 }
 
 
@@ -265,7 +267,8 @@ def test_explanations(test):
     test.same(said[24][1:], b"25: the run's length is 0\n", "")
     test.same(said[26][1:], b"27: the record's used size is above its length\n", "")
     test.same(said[27][1:], b"28: the attribute ends past the record's used size\n", "")
-    for n in (0, 29, 256, 257 + 27, 2 ** 64 - 1):
+    test.same(said[REFUSALS.index(44)][1:], b"44: the table would have a record number of 2^48 or more\n", "")
+    for n in (0, 31, 33, 36, 43, 45, 256, 256 + 44, 2 ** 64 - 1):
         test.same(test.run("explain", str(n)), 64, b"", "nomutanku: there is no refusal %d\n" % n)
 
 

@@ -53,12 +53,12 @@ def block(text, title):
 
 
 def options_of(text):
-    """option -> the name of its value, or an empty word; and the short ones."""
+    """option -> the name of its value, or an empty word. An option that has a long name goes by it."""
     found = {}
     for line in block(text, "Options"):
-        match = re.match(r" +(?:(-\w), )?(--[a-z-]+)(?: <(\w+)>)?(?:  |$)", line)
+        match = re.match(r" +(?:-\w, )?(--[a-z-]+|-\w)(?: <(\w+)>)?(?:  |$)", line)
         if match:
-            found[match.group(2)] = match.group(3) or ""
+            found[match.group(1)] = match.group(2) or ""
         elif not re.match(r" {10}", line):
             sys.exit("options: a help has a line that is no option: %r" % line)
     return found
@@ -88,7 +88,7 @@ def asked():
 
 def options_in(words):
     """The options among the words of a command, with the names of their values."""
-    return {word[1:-1] for word in words if word.startswith("[--")}
+    return {word[1:-1] for word in words if word.startswith("[-")}
 
 
 def options_of_each(program):
@@ -152,7 +152,7 @@ def of_bash(text):
 def of_zsh(text):
     """The same of the other shell."""
     names = set(re.findall(r"^    '(\w+):", text, re.MULTILINE))
-    typed = re.compile(r"'(--[a-z-]+)\[")
+    typed = re.compile(r"'(--[a-z-]+|-\w)\[")
     first = re.search(r"^    _arguments .*$", text, re.MULTILINE)
     found = {"": names.union(typed.findall(first.group(0)) if first else ())}
     for name, words in re.findall(r"^    (\w+)\)(.*?);;$", text, re.MULTILINE | re.DOTALL):
@@ -231,7 +231,8 @@ def completions(program):
     assert completes(["nomutanku", "list", "--j"]) == completes(["nomutanku", "list", "a.tab", "--j"]) == {"--json"}
     assert completes(["nomutanku", "--help", "exp"]) == {"explain"}
     # a number comes, or a file
-    assert completes(["nomutanku", "list", "--base", ""]) == completes(["nomutanku", "list", "--", "--"]) == set()
+    for before in (["list", "--base", ""], ["extract", "--from", ""], ["list", "--", "--"]):
+        assert completes(["nomutanku", *before]) == set(), before
     return "%d commands tried in bash" % len(program.commands)
 
 

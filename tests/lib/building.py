@@ -1,10 +1,11 @@
-"""The one builder of attributes, list entries, records and tables.
+"""The one builder of attributes, list entries, records, extracts and tables.
 
 Every number of a layout is a parameter, also those that a rule tests or does not consult, so that a case can have
 each of them wrong; what is left out suits the rest. Bytes that no field has differ from their neighbours and are none
 of them 0, so that bytes read from a wrong place show.
 """
 import struct
+from typing import NamedTuple
 
 from lib.reading import LIST, MARKER
 
@@ -15,6 +16,9 @@ FILE = b"FILE"
 # Where a record's first attribute stands most often, and where its used size does. That is a record's length unless it
 # is told: a record whose used size is smaller refuses what stands behind it.
 FIRST, USED_AT = 56, 24
+
+# On the disk, the bytes that one pair guards, and those of a pair.
+BLOCK, PAIR = 512, 2
 
 # What stands in a resident attribute behind its value, in one that is not resident behind its header, in an entry
 # behind its name, and in a gap of a table.
@@ -129,6 +133,40 @@ def zero_record(size, *placed, first=FIRST, used=None, allocated=None):
         text[at:at + len(part)] = part
     assert len(text) == size
     return bytes(text)
+
+
+# Records as they lie on the disk.
+
+def pair_places(size):
+    """Where the pairs of a record stand: the last two bytes of each 512."""
+    return range(BLOCK - PAIR, size, BLOCK)
+
+
+class Raw(NamedTuple):
+    """A record as it lies on the disk, and as it is read."""
+
+    raw: bytes
+    fixed: bytes
+
+
+def raw_record(size, k=0, array=48, count=None, magic=FILE):
+    """A record whose array stands at a place and tells this size, of that of the record where none is told; its other
+    bytes are different for each k. Both are made of the array as it comes to stand, so that it may lie over the header
+    too; where it lies past the record or over a pair only `raw` is to be used."""
+    blocks = size // BLOCK
+    text = bytearray(PATTERN[k:k + size])
+    text[:8] = magic + struct.pack("<HH", array, blocks + 1 if count is None else count)
+    numbers_kept = bytes(text[array:array + PAIR * (blocks + 1)]).ljust(PAIR * (blocks + 1), b"\0")
+    raw, fixed = text, bytearray(text)
+    for i, at in enumerate(pair_places(size)):
+        fixed[at:at + PAIR] = numbers_kept[PAIR * (i + 1):PAIR * (i + 2)]
+        raw[at:at + PAIR] = numbers_kept[:PAIR]
+    return Raw(bytes(raw), bytes(fixed))
+
+
+def with_byte(text, at, change=1):
+    """These bytes with one of them changed."""
+    return text[:at] + bytes((text[at] ^ change,)) + text[at + 1:]
 
 
 # Tables.

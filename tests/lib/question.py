@@ -9,18 +9,18 @@ import functools
 import struct
 
 # Where the kinds of question of each layer begin: crates/ask/src/main.rt has them all.
-ON_RECORDS, ON_TABLES, ON_ITEMS, ON_PARTS, ON_LISTINGS, ON_RUNS = 0, 16, 23, 27, 30, 32
+ON_RECORDS, ON_TABLES, ON_ITEMS, ON_PARTS, ON_LISTINGS, ON_RUNS, ON_EXTRACTS = 0, 16, 23, 27, 30, 32, 34
 
 # The numbers by their tags.
 TAGS = {
     name: tag for tag, name in enumerate((
         "number", "place", "wanted", "list", "list_from", "list_to", "key", "ty", "instance", "most", "record_bytes",
-        "table_bytes", "buffer", "last", "sum", "run_bytes", "units", "name_bytes",
+        "table_bytes", "buffer", "last", "sum", "run_bytes", "units", "name_bytes", "size",
     ))
 }
 
 # How many bytes a question's record and table may have together, and how many a key's name has.
-ROOM = 131072
+ROOM = 4_300_000
 NAME = 510
 
 LAST = 2 ** 64 - 1

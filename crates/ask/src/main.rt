@@ -2,6 +2,7 @@
 // compare the answers with a second reading of the rules.
 #![tactic(auto)]
 
+mod in_extract;
 mod in_listing;
 mod in_record;
 mod in_runs;
@@ -65,12 +66,25 @@ fn answer_on_file<W: Write>(out: &mut W, q: &Question<'_>) -> io::Result<()> {
     }
 }
 
+// The question on extracts, whose call wants a room to write to; or one of the others.
+fn answer<W: Write>(out: &mut W, q: &Question<'_>, room: &mut [u8]) -> io::Result<()> {
+    match q.kind {
+        34 => in_extract::write(out, q, room),
+        _ => answer_on_record(out, q),
+    }
+}
+
 // Answers one question after another. It ends by the error that the input's end is, or that of an answer that
 // could not be written.
-fn answer_each<R: Read, W: Write>(input: &mut R, space: &mut [u8], out: &mut W) -> io::Result<()> {
+fn answer_each<R: Read, W: Write>(
+    input: &mut R,
+    space: &mut [u8],
+    room: &mut [u8],
+    out: &mut W,
+) -> io::Result<()> {
     // as many as come: a loop without a bound would have to be shown to end
     for _ in 0..u64::MAX {
-        answer_on_record(out, &question::read(input, space)?)?;
+        answer(out, &question::read(input, space)?, room)?;
     }
     Ok(())
 }
@@ -79,7 +93,8 @@ fn answer_all<R: Input + Print + AllocGlobal>(rt: &R) -> io::Result<()> {
     let mut input = BufReader::new(rt.alloc(), rt.reader())?;
     let mut out = BufWriter::new(rt.alloc(), io::writer(rt))?;
     let mut space = question::room(rt.alloc())?;
-    let _ = answer_each(&mut input, &mut space, &mut out);
+    let mut room = question::room(rt.alloc())?;
+    let _ = answer_each(&mut input, &mut space, &mut room, &mut out);
     out.flush()
 }
 

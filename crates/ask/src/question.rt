@@ -51,16 +51,20 @@ const UNITS: usize = 128;
 
 const NAME_BYTES: usize = 136;
 
-const NUMBERS: usize = 144;
+const SIZE: usize = 144;
 
-/// How many bytes the record and the table may have together.
-const ROOM: usize = 131_072;
+const NUMBERS: usize = 152;
+
+/// How many bytes the record and the table may have together: as many as an extract of one record too many and a
+/// buffer for the longest table of its size.
+const ROOM: usize = 4_300_000;
 
 /// A question, for every call that there is: each reads what it needs. A state has the place as its raw place,
 /// the list and the key; `ty` stands beside a key, since other calls ask for it too, and `instance` is theirs alone.
 /// `most` is how many calls a walk makes, or the room for parts; `buffer` the room for a listing's text. `last` and
 /// `sum` go from one run to the next, and `run_bytes` is how many bytes of a record hold runs. The record is, for an
-/// entry, the rest of a list, and for one run the run bytes. The kind is the byte that came: `main` has the kinds.
+/// entry, the rest of a list, and for one run the run bytes; for an extract it is the extract, of records of `size`
+/// bytes, and the table is what its buffer holds. The kind is the byte that came: `main` has the kinds.
 #[derive(Clone, Copy)]
 pub struct Question<'a> {
     pub kind: u8,
@@ -76,6 +80,7 @@ pub struct Question<'a> {
     pub last: u64,
     pub sum: u64,
     pub run_bytes: usize,
+    pub size: usize,
     pub record: &'a [u8],
     pub table: &'a [u8],
 }
@@ -112,6 +117,7 @@ impl<'a> Question<'a> {
             last: u64_at(numbers, LAST),
             sum: u64_at(numbers, SUM),
             run_bytes: u64_at(numbers, RUN_BYTES) as usize,
+            size: u64_at(numbers, SIZE) as usize,
             record,
             table,
         }

@@ -1,4 +1,5 @@
 //! Answers in words and decimal numbers.
+use extract::{Extracted, RefusedRecord};
 use fields::{Counted, Refusal};
 use items::{Item, Key, Rest, State, Walked};
 use list::{Entry, Listed};
@@ -152,6 +153,28 @@ impl Tell for Decoded {
         self.answer.tell(out)?;
         write!(out, " last {} sum {}", self.carried.last, self.carried.sum)?;
         write!(out, " taken {}", self.taken)
+    }
+}
+
+// A number of 2^64 or above has no decimals here.
+impl Tell for RefusedRecord {
+    fn tell<W: Write>(&self, out: &mut W) -> io::Result<()> {
+        write!(out, "{} {} ", self.cause.number(), self.position)?;
+        match self.number {
+            Some(number) => write!(out, "{}", number.0),
+            None => out.write_all(b"above"),
+        }
+    }
+}
+
+impl Tell for Extracted {
+    fn tell<W: Write>(&self, out: &mut W) -> io::Result<()> {
+        write!(out, "extracted {} {}", self.length, self.written)?;
+        write!(out, " {} {} first ", self.left_out, self.refused)?;
+        match &self.first_refused {
+            Some(first) => first.tell(out),
+            None => out.write_all(b"none"),
+        }
     }
 }
 

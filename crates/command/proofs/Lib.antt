@@ -4,3 +4,7 @@ pub mod Listings
 pub mod Fronts
 pub mod Misfits
 pub mod Moved
+pub mod Making
+pub mod Passed
+pub mod Sizes
+pub mod Taken

@@ -1,12 +1,18 @@
--- The definition's chapter on the command: what is asked, statuses, reasons, names and explanations.
+-- The definition's chapter on the command: what is asked, statuses, reasons, names, explanations and extracts.
 pub mod Status
 pub mod Names
 pub mod Asked
 pub mod Misfit
+pub mod Part
+pub mod Passed
+pub mod Extraction
+pub mod Unmade
 pub mod Reason
 pub mod Explain
 pub mod Given
 pub mod Read
 pub mod Moves
 pub mod Run
+pub mod Counts
+pub mod Make
 pub mod Laws

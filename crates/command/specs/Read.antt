@@ -11,6 +11,9 @@ use Rattle.command.specs.declared.reason.Reason.TheVariants.{
   NoBaseRow,
   NoRecord,
   Unfit,
+  SizeUntold,
+  Unmade,
+  RecordRefused,
   Unreadable,
   OutOfMemory,
 }
@@ -31,3 +34,6 @@ IsUnread (NoTable fault) = ⊥
 IsUnread NoBaseRow = ⊥
 IsUnread (NoRecord n) = ⊥
 IsUnread (Unfit misfit cause) = ⊥
+IsUnread SizeUntold = ⊥
+IsUnread (Unmade why) = ⊥
+IsUnread (RecordRefused first) = ⊥

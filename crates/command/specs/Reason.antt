@@ -22,6 +22,9 @@ use Rattle.command.specs.declared.reason.Reason.TheVariants.{
   NoBaseRow,
   NoRecord,
   Unfit,
+  SizeUntold,
+  Unmade,
+  RecordRefused,
   Unreadable,
   OutOfMemory,
 }
@@ -35,6 +38,9 @@ status_of (NoTable fault) = status.Refused
 status_of NoBaseRow = status.Refused
 status_of (NoRecord n) = status.Refused
 status_of (Unfit misfit cause) = status.Refused
+status_of SizeUntold = status.Refused
+status_of (Unmade why) = status.Refused
+status_of (RecordRefused first) = status.Stopped
 status_of (Unreadable error) = status.Unreadable
 status_of OutOfMemory = status.Unreadable
 

@@ -5,7 +5,7 @@ ghost use Rattle.command.specs.Explain.{explained};
 use fields::Cause;
 
 /// All causes, in the order of their numbers.
-pub const CAUSES: [Cause; 28] = [
+pub const CAUSES: [Cause; 33] = [
     Cause::RecordLength,
     Cause::NotFile,
     Cause::AttributeCut,
@@ -34,6 +34,11 @@ pub const CAUSES: [Cause; 28] = [
     Cause::RunRange,
     Cause::UsedSize,
     Cause::AttributeStale,
+    Cause::FixupArray,
+    Cause::FixupPair,
+    Cause::TooManyRows,
+    Cause::OutputShort,
+    Cause::RowNumber,
 ];
 
 fn found(causes: &[Cause], number: u8) -> Option<Cause>

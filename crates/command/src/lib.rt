@@ -1,24 +1,35 @@
-//! What the command decides: how much of an input is read and what is written of it, the exit status, the reason that
-//! is told on standard error, how a file's name is shown, and what a refusal's number means.
+//! What the command decides: how much of an input is read and what is written of it, the table that is made of an
+//! extract, the exit status, the reason that is told on standard error, how a file's name is shown, and what the number
+//! of a refusal means.
 #![tactic(auto)]
 
 mod asked;
+mod counts;
 mod explain;
+mod extraction;
 mod given;
 pub mod laws;
+mod make;
 mod misfit;
 mod names;
+mod part;
 mod read;
 mod reason;
 mod run;
 mod status;
+mod unmade;
 
 pub use asked::Asked;
+pub use counts::{Counts, FirstRefused};
 pub use explain::cause_of;
+pub use extraction::{Extraction, size_told};
 pub use given::Given;
+pub use make::{Made, extract_input, extract_rest};
 pub use misfit::Misfit;
 pub use names::{Shown, heading};
+pub use part::read_front;
 pub use read::read_input;
 pub use reason::Reason;
 pub use run::{report_input, write_report};
 pub use status::Status;
+pub use unmade::Unmade;

@@ -1,6 +1,6 @@
 //! An input is read as far as it matters to what is asked of it, so that a disk or an input without end costs neither
 //! minutes nor memory.
-ghost use Rattle.std.specs.Prelude.{◌≡◌, ◌≤◌, ◌<◌, length, take, IfOk, IfErr, IfSome};
+ghost use Rattle.std.specs.Prelude.{◌≡◌, ◌≤◌, ◌<◌, ◌+◌, length, take, vec_len, IfOk, IfErr, IfSome};
 ghost use Rattle.std.specs.Io.KnownBytes.{Consumes, IsAtEnd};
 ghost use Rattle.command.specs.Moves.{Moves};
 ghost use Rattle.command.specs.Read.{IsEnough, IsUnread};
@@ -11,12 +11,12 @@ use std::io;
 use std::io::{ErrorKind, Read};
 
 // How many bytes are read at once, at most.
-const CHUNK: usize = 65_536;
+pub(crate) const CHUNK: usize = 65_536;
 
 // Reads once, also where an interruption comes first; with as many turns as a number counts, since a reader may be
 // interrupted for ever.
 #[tactic(auto, using(crate::proofs::Moved::kept_first))]
-fn read_once<R: Read>(input: &mut R, room: &mut [u8]) -> io::Result<usize>
+pub(crate) fn read_once<R: Read>(input: &mut R, room: &mut [u8]) -> io::Result<usize>
     ensures within { IfOk result (λ n. n ≤ length room.new) }
     ensures bytes { IfOk result (λ n.
         Consumes (R.remaining input.old) (R.remaining input.new) (take n room.new)) }
@@ -36,10 +36,15 @@ fn read_once<R: Read>(input: &mut R, room: &mut [u8]) -> io::Result<usize>
 }
 
 // Moves bytes from the input to the end of those that were read before, as many as one read gives.
-fn move_bytes<R: Read>(input: &mut R, room: &mut [u8], bytes: &mut Vec<u8>) -> Result<usize, Reason>
+pub(crate) fn move_bytes<R: Read>(
+    input: &mut R,
+    room: &mut [u8],
+    bytes: &mut Vec<u8>,
+) -> Result<usize, Reason>
     requires { 0 < length room.old }
     ensures ok { IfOk result
         (Moves (R.remaining input.old) (R.remaining input.new) bytes.old.items bytes.new.items) }
+    ensures few { vec_len bytes.new ≤ vec_len bytes.old + length room.old }
     ensures err { IfErr result IsUnread }
 {
     match read_once(input, room) {

@@ -2,7 +2,7 @@
 ghost use Rattle.std.specs.Prelude.{◌≡◌};
 ghost use Rattle.command.specs.Reason.{status_of, table_reason, refused_reason, ending_reason};
 
-use crate::{Asked, Misfit, Status};
+use crate::{Asked, FirstRefused, Misfit, Status, Unmade};
 use fields::{Cause, RecordNumber};
 use lines::Ending;
 use record::is_file;
@@ -17,7 +17,7 @@ pub enum Reason {
     Stopped(Cause),
     #[error("no table: it is empty (21)")]
     Empty,
-    #[error("no table: it begins with FILE, as a raw record and an extract of the MFT do (21)")]
+    #[error("no table: it begins with FILE, as raw records do: nomutanku extract makes a table of them (21)")]
     RawRecord,
     #[error("no table: {0} (21)")]
     NoTable(Fault),
@@ -27,6 +27,12 @@ pub enum Reason {
     NoRecord(RecordNumber),
     #[error("no record: {0} ({number})", number = .1.number())]
     Unfit(Misfit, Cause),
+    #[error("no table: the record at its front tells no record size: name it by --size")]
+    SizeUntold,
+    #[error("no table: {0} ({number})", number = .0.cause().number())]
+    Unmade(Unmade),
+    #[error("{0}")]
+    RecordRefused(FirstRefused),
     #[error("{0}")]
     Unreadable(io::Error),
     #[error("out of memory")]
@@ -57,13 +63,15 @@ impl Reason {
         ensures { result ≡ status_of self }
     {
         match self {
-            Reason::Stopped(_) => Status::Stopped,
+            Reason::Stopped(_) | Reason::RecordRefused(_) => Status::Stopped,
             Reason::Empty
             | Reason::RawRecord
             | Reason::NoTable(_)
             | Reason::NoBaseRow
             | Reason::NoRecord(_)
-            | Reason::Unfit(..) => Status::Refused,
+            | Reason::Unfit(..)
+            | Reason::SizeUntold
+            | Reason::Unmade(_) => Status::Refused,
             Reason::Unreadable(_) | Reason::OutOfMemory => Status::Unreadable,
         }
     }

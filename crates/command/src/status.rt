@@ -5,17 +5,17 @@ ghost use Rattle.command.specs.Status.{code_of};
 /// How it went, from the best to the worst.
 #[derive(Clone, Copy, Debug, PartialEq, Eq)]
 pub enum Status {
-    /// Every listing came to its end.
+    /// Every listing came to its end, or an extract has no record that is refused.
     Whole,
-    /// A walk was refused, and its listing stops there.
+    /// A walk was refused, and its listing stops there; or a record of an extract was, and is not in the table.
     Stopped,
-    /// An input is no table, or has no such record: nothing of it is listed.
+    /// An input is no table, or has no such record, or no table is made of it: nothing of it is told.
     Refused,
     /// An input could not be read, or there was no memory for it.
     Unreadable,
     /// The command line asks for what there is not.
     Usage,
-    /// Standard output did not take all of it.
+    /// An output did not take all of it.
     NotWritten,
 }
 

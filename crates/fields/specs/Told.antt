@@ -10,7 +10,8 @@ use Rattle.fields.specs.declared.Cause.TheVariants.{NameEnd, ValueOffset, ValueE
 use Rattle.fields.specs.declared.Cause.TheVariants.{ListNotResident, EntryCut, EntryShort, EntryNameCut}
 use Rattle.fields.specs.declared.Cause.TheVariants.{NoRecord, NoAttribute, PartResident, NoRoom}
 use Rattle.fields.specs.declared.Cause.TheVariants.{BadTable, BadState, RunSize, RunCut, RunEmpty, RunRange}
-use Rattle.fields.specs.declared.Cause.TheVariants.{UsedSize, AttributeStale}
+use Rattle.fields.specs.declared.Cause.TheVariants.{UsedSize, AttributeStale, FixupArray, FixupPair}
+use Rattle.fields.specs.declared.Cause.TheVariants.{TooManyRows, OutputShort, RowNumber}
 
 abbrev pub number_of : Cause → ℕ
 number_of RecordLength = 1
@@ -41,6 +42,11 @@ number_of RunEmpty = 25
 number_of RunRange = 26
 number_of UsedSize = 27
 number_of AttributeStale = 28
+number_of FixupArray = 29
+number_of FixupPair = 30
+number_of TooManyRows = 34
+number_of OutputShort = 35
+number_of RowNumber = 44
 
 -- what a call says that gives a value or refuses
 abbrev pub told : {A : Type 0} → Result A Refusal → Outcome A

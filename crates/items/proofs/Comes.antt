@@ -82,7 +82,8 @@ module _ (s : List ℕ) (n : RecordNumber) (look : RecordNumber → Option (List
       (state raw (Some (list_at (from + e.length) to)) key))
       (λ k. both (λ (l : Left). l.answer ≡ gives i → Comes i) (passed_over n key e (name_in s (list_at from to) e)) _ _
       (come-entries on raw to f es (from + e.length) key y.tail i)
-      (by-item raw (list_at from to) e (key_of e (name_in s (list_at from to) e)) y.stands k (sought_of s n look e from).answer refl i))
+      (by-item raw (list_at from to) e (key_of e (name_in s (list_at from to) e)) y.stands k
+      (sought_of s n look e from).answer refl i))
       (λ u. absurd (cc)) p
     where
       by-test : (t : Bool) (x y : Left) → (t ≡ true → x.answer ≡ gives i → Comes i) → (y.answer ≡ gives i → Comes i)

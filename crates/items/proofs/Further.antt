@@ -109,7 +109,8 @@ module _ (s : List ℕ) (n : RecordNumber) (look : RecordNumber → Option (List
       (both P (passed_over n key x (name_in s (list_at from to) x)) _ _
       (back raw from (from + x.length) to (omega arith) (by_entries s n look on raw to es (from + x.length) key).left
       (entries_on on raw to z f es (from + x.length) key b p.tail))
-      (by_item (length s) raw from to x (key_of x (name_in s (list_at from to) x)) b z (sought_of s n look x from).answer))
+      (by_item (length s) raw from to x (key_of x (name_in s (list_at from to) x)) b z
+      (sought_of s n look x from).answer))
       (at_rest (length s) raw from to (from + x.length) (omega arith) b z key)
 
   -- behind the attribute that opened it

@@ -72,7 +72,8 @@ module _ (s : List ℕ) (n : RecordNumber) (look : RecordNumber → Option (List
       (leaves (gives (item e.file h (Some (list_at from to))))
       (state raw (Some (list_at (from + e.length) to)) (Some (key_of e (name_in s (list_at from to) e))))) _ _
       (ap (λ (xs : List (Outcome Item)). gives (item e.file h None) ∷ xs) (step None))
-      (ap (λ (xs : List (Outcome Item)). gives (item e.file h (Some (list_at from to))) ∷ xs) (step (Some (key_of e (name_in s (list_at from to) e)))))
+      (ap (λ (xs : List (Outcome Item)). gives (item e.file h (Some (list_at from to))) ∷ xs)
+      (step (Some (key_of e (name_in s (list_at from to) e)))))
 
   entries : (hs : List (Outcome Attribute)) (raw to : ℕ) → to ≤ length s → hs ≡ walk_from s n raw
       → ((key : Option Key) → went (by_attributes s n look hs raw key) ≡ attributes_give s n look hs key)
@@ -95,7 +96,8 @@ module _ (s : List ℕ) (n : RecordNumber) (look : RecordNumber → Option (List
       (from + e.length) k) (sym y.tail))
       ∙ rest k in
       same (known_type e.ty) _ _ _ _
-      (same (passed_over n key e (name_in s (list_at from to) e)) _ _ _ _ (rest key) (found raw from to e on step (sought_of s n look e from).answer))
+      (same (passed_over n key e (name_in s (list_at from to) e)) _ _ _ _ (rest key)
+      (found raw from to e on step (sought_of s n look e from).answer))
       refl
 
   listed : (at : ℕ) (hs : List (Outcome Attribute)) (h : Attribute) → Inside s h → hs ≡ walk_from s n at

@@ -1,6 +1,7 @@
 -- RULES 20: both sides of each line, as one table: a question of these definitions, the bytes that it is asked of,
 -- and what is to be answered.
-use Rattle.std.specs.Prelude.{ℕ, ◌+◌, ◌-◌, ◌/◌, ◌^◌, ◌≡◌, Bool, true, false, List, [], ◌∷◌, ◌++◌, map, length, drop, replicate}
+use Rattle.std.specs.Prelude.{ℕ, ◌+◌, ◌-◌, ◌/◌, ◌^◌, ◌≡◌, Bool, true, false}
+use Rattle.std.specs.Prelude.{List, [], ◌∷◌, ◌++◌, map, length, drop, replicate}
 use Rattle.fields.specs.LeBytes.{le_bytes}
 use Rattle.fields.specs.Answer.{Outcome, Answer, gives, ends, refuses, refusal, unended}
 use Rattle.fields.specs.declared.Cause.{Cause}
@@ -127,8 +128,8 @@ abbrev pub BothSides : Type 0
 BothSides =
     map (λ r. answer_to r.asks (record_with r.long r.used r.place r.bytes) r.place) rows ≡ map (λ r. r.says) rows
 
--- RULES 14.9: an entry of type 128 with a name left a key; whether another with this type, name and lowest VCN continues
--- its stream
+-- RULES 14.9: an entry of type 128 with a name left a key; whether another with this type, name and lowest VCN
+-- continues its stream
 pub record Join : Type 0 where
   pub key : List ℕ
   pub ty : ℕ

@@ -10,7 +10,8 @@ use Rattle.fields.specs.declared.Cause.TheVariants.{NameEnd, ValueOffset, ValueE
 use Rattle.fields.specs.declared.Cause.TheVariants.{ListNotResident, EntryCut, EntryShort, EntryNameCut}
 use Rattle.fields.specs.declared.Cause.TheVariants.{NoRecord, NoAttribute, PartResident, NoRoom}
 use Rattle.fields.specs.declared.Cause.TheVariants.{BadTable, BadState, RunSize, RunCut, RunEmpty, RunRange}
-use Rattle.fields.specs.declared.Cause.TheVariants.{UsedSize, AttributeStale}
+use Rattle.fields.specs.declared.Cause.TheVariants.{UsedSize, AttributeStale, FixupArray, FixupPair}
+use Rattle.fields.specs.declared.Cause.TheVariants.{TooManyRows, OutputShort, RowNumber}
 use Rattle.command.specs.Explain.{explained}
 use Rattle.command.specs.declared.explain.TheConstants.{CAUSES}
 
@@ -43,6 +44,11 @@ small RunEmpty = omega arith
 small RunRange = omega arith
 small UsedSize = omega arith
 small AttributeStale = omega arith
+small FixupArray = omega arith
+small FixupPair = omega arith
+small TooManyRows = omega arith
+small OutputShort = omega arith
+small RowNumber = omega arith
 
 none_in : (n : ℕ) → 255 < n → (cs : List Cause) → explained cs n ≡ None
 none_in n more [] = refl

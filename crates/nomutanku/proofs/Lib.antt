@@ -1,4 +1,5 @@
 mod Causes
 mod CommandLine
+mod Extracted
 mod Told
 mod Words

@@ -16,6 +16,9 @@ use Rattle.command.specs.declared.reason.Reason.TheVariants.{
   NoBaseRow,
   NoRecord,
   Unfit,
+  SizeUntold,
+  Unmade,
+  RecordRefused,
   Unreadable,
   OutOfMemory,
 }
@@ -28,6 +31,9 @@ of_reason (NoTable fault) = omega arith
 of_reason NoBaseRow = omega arith
 of_reason (NoRecord n) = omega arith
 of_reason (Unfit misfit cause) = omega arith
+of_reason SizeUntold = omega arith
+of_reason (Unmade why) = omega arith
+of_reason (RecordRefused first) = omega arith
 of_reason (Unreadable error) = omega arith
 of_reason OutOfMemory = omega arith
 

@@ -32,7 +32,7 @@ refusal_rule = record (new_rule (codes "number")) {
   required = true;
 }
 
--- `[TABLE]..` and `[FILE]`
+-- `[TABLE]..`, and `[FILE]` or `[MFT]`
 abbrev pub tables_rule : Rule
 tables_rule = record (new_rule (codes "inputs")) {
   action = Some Append;
@@ -42,6 +42,10 @@ tables_rule = record (new_rule (codes "inputs")) {
 
 abbrev pub file_rule : Rule
 file_rule = record (new_rule (codes "inputs")) { value_names = 1 }
+
+-- `-o TABLE`
+abbrev pub table_rule : Rule
+table_rule = record (new_rule (codes "table")) { short = Some 111; value_names = 1 }
 
 -- the subcommands
 abbrev pub list_shape : Shape
@@ -57,19 +61,28 @@ record_shape = record (new_shape (codes "record")) {
   rules = number_rule (codes "number") ∷ json_rule ∷ file_rule ∷ [];
 }
 
+abbrev pub extract_shape : Shape
+extract_shape = record (new_shape (codes "extract")) {
+  rules =
+      number_rule (codes "size") ∷ number_rule (codes "first") ∷ number_rule (codes "from")
+      ∷ number_rule (codes "count") ∷ table_rule ∷ file_rule ∷ [];
+}
+
 abbrev pub explain_shape : Shape
 explain_shape = record (new_shape (codes "explain")) { rules = refusal_rule ∷ [] }
 
 -- the whole: a subcommand has to be named, and where nothing is given help is the answer
+abbrev pub program_shape : Shape
+program_shape = record (new_shape (codes "nomutanku")) {
+  has_version = true;
+  arg_required_else_help = true;
+  subcommand_required = true;
+}
+
 abbrev pub command_line : App
 command_line = record {
-  top = record (new_shape (codes "nomutanku")) {
-    is_leaf = false;
-    has_version = true;
-    arg_required_else_help = true;
-    subcommand_required = true;
-  };
-  subs = list_shape ∷ rows_shape ∷ record_shape ∷ explain_shape ∷ [];
+  top = record program_shape { is_leaf = false };
+  subs = list_shape ∷ rows_shape ∷ record_shape ∷ extract_shape ∷ explain_shape ∷ [];
 }
 
 -- an option that is read so, in its own subcommand alone

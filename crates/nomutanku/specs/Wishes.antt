@@ -5,6 +5,7 @@ use Rattle.clap.specs.Words.{found_of, one_text}
 use Rattle.clap.specs.declared.parser.matches.ArgMatches.{ArgMatches}
 use Rattle.command.specs.declared.asked.Asked.{Asked}
 use Rattle.command.specs.declared.asked.Asked.TheVariants.{Listing, Rows, Record}
+use Rattle.command.specs.declared.extraction.Extraction.{Extraction}
 use Rattle.report.specs.declared.form.Form.{Form}
 use Rattle.report.specs.declared.form.Form.TheVariants as form
 use Rattle.nomutanku.specs.declared.inputs.Wish.{Wish}
@@ -24,6 +25,10 @@ Counts None n = n ≡ None
 Counts (Some t) (Some n) = IsNumber t × (n ≡ digits_value 10 (without_leading_plus t))
 Counts (Some t) None = IsNumber t → ⊥
 
+-- the value of an option as a number, 0 where it is left out
+abbrev pub CountsOr0 : Option (List ℕ) → ℕ → Type 0
+CountsOr0 value n = (given : Option ℕ) × Counts value given × (n ≡ unwrap_or given 0)
+
 -- `--json` is `true` where it is given, and `false` or nothing where it is not
 abbrev pub Forms : Option (List ℕ) → Form → Type 0
 Forms value f =
@@ -37,8 +42,15 @@ Asks name options (Listing wanted) =
     (name ≡ codes "list") × Counts (value_of options (codes "base")) (option_map (λ n. n.0) wanted)
 Asks name options Rows = name ≡ codes "rows"
 Asks name options (Record n) =
-    (name ≡ codes "record")
-    × ((given : Option ℕ) × Counts (value_of options (codes "number")) given × (n.0 ≡ unwrap_or given 0))
+    (name ≡ codes "record") × CountsOr0 (value_of options (codes "number")) n.0
+
+-- what is asked of an extract
+abbrev pub AsksExtraction : ArgMatches → Extraction → Type 0
+AsksExtraction options q =
+    Counts (value_of options (codes "size")) q.size
+    × CountsOr0 (value_of options (codes "first")) q.first.0
+    × CountsOr0 (value_of options (codes "from")) q.from
+    × Counts (value_of options (codes "count")) q.count
 
 -- what is asked of each input, in which form; nothing by a name of another kind
 abbrev pub Wishes : List ℕ → ArgMatches → Option Wish → Type 0

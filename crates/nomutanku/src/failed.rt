@@ -5,7 +5,7 @@ use command::Status;
 use std::alloc::AllocError;
 use std::io;
 
-/// Why the command goes no further: there is no memory for its own work, or standard output takes no more.
+/// Why the command goes no further: there is no memory for its own work, or an output takes no more.
 #[derive(Clone, Copy)]
 pub enum Failed {
     Memory,

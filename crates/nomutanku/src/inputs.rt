@@ -15,7 +15,7 @@ use std::rt::{Clock, Files};
 use std::{fs, io};
 
 /// How standard input is named on the command line.
-const STANDARD_INPUT: &str = "-";
+pub const STANDARD_INPUT: &str = "-";
 
 /// What is asked of each input, the form in which it is told, and what is said where none is named.
 #[derive(Clone, Copy)]
@@ -33,7 +33,7 @@ pub struct Streams {
 }
 
 /// How an input is named in messages.
-fn named<'a>(name: &'a str) -> &'a str
+pub fn named<'a>(name: &'a str) -> &'a str
     ensures standard { name.entry.now ≡ codes "-" → result.now ≡ codes "standard input" }
     ensures other { name.entry.now ≢ codes "-" → result ≡ name.entry }
 {
@@ -99,8 +99,8 @@ fn tell_each<R: Print + Eprint + Input + Files + Clock + AllocGlobal>(
     Ok(worst)
 }
 
-// The inputs that are told: those that are named, or standard input where none is and it has something to give.
-fn inputs_of<'i, 'a>(names: Option<&'i [&'a str]>, given: Given) -> Option<&'i [&'a str]>
+/// The inputs that are told: those that are named, or standard input where none is and it has something to give.
+pub fn inputs_of<'i, 'a>(names: Option<&'i [&'a str]>, given: Given) -> Option<&'i [&'a str]>
     ensures { names_of result ≡ inputs_of (names_of names.entry) given }
 {
     match names {

@@ -1,5 +1,5 @@
-//! Tells what tables of NTFS records, and single records, hold: `nomutanku list`, `rows`, `record` and `explain`
-//! (docs/REFERENCE.md, "The command").
+//! Tells what tables of NTFS records, and single records, hold, and makes tables of extracts of a raw $MFT: `nomutanku
+//! list`, `rows`, `record`, `extract` and `explain` (docs/REFERENCE.md, "The command").
 #![tactic(auto)]
 
 ghost use Rattle.std.specs.Prelude.{◌≡◌, Ok, None, map, string_bytes};
@@ -8,11 +8,13 @@ ghost use Rattle.command.specs.declared.status.Status.TheVariants.{Usage};
 ghost use Rattle.nomutanku.specs.Answers.{Tells, Answers};
 
 mod explain;
+mod extraction;
 mod failed;
 mod given;
 mod inputs;
 mod numbers;
 mod options;
+mod output;
 mod progress;
 mod wishes;
 
@@ -21,7 +23,7 @@ use clap::error::ErrorKind;
 use command::Status;
 use failed::Failed;
 use inputs::Streams;
-use options::INPUTS;
+use options::{INPUTS, TABLE};
 use std::io::IsTerminal;
 use std::process::ExitCode;
 use std::rt::{Clock, Env, Files};
@@ -37,6 +39,11 @@ fn obey<R: Print + Eprint + Input + Files + Clock + AllocGlobal>(
 {
     match asked.subcommand() {
         Some(("explain", options)) => explain::obey(rt, options),
+        Some(("extract", options)) => {
+            let asked = extraction::asked(options);
+            let table = options.get_str(TABLE);
+            extraction::obey(rt, streams, asked, table, options.get_strs(INPUTS))
+        }
         Some((name, options)) => match wishes::wish(name, options) {
             Some(wish) => inputs::obey(rt, streams, wish, options.get_strs(INPUTS)),
             None => Ok(Status::Usage),

@@ -1,7 +1,8 @@
 //! The command line.
 ghost use Rattle.std.specs.Prelude.{IfOk};
-ghost use Rattle.nomutanku.specs.CommandLine.{IsRead, Is, leaf, number_rule, json_rule, tables_rule, command_line};
-ghost use Rattle.nomutanku.specs.CommandLine.{list_shape, rows_shape, record_shape, explain_shape};
+ghost use Rattle.nomutanku.specs.CommandLine.{IsRead, Is, leaf, number_rule, json_rule, tables_rule, file_rule};
+ghost use Rattle.nomutanku.specs.CommandLine.{list_shape, rows_shape, record_shape, table_rule, extract_shape};
+ghost use Rattle.nomutanku.specs.CommandLine.{explain_shape, program_shape, command_line};
 
 use clap::{Arg, ArgAction, Command, value_parser};
 use std::alloc::{AllocError, Global};
@@ -9,21 +10,42 @@ use std::alloc::{AllocError, Global};
 /// By this id the inputs that are named are asked for.
 pub const INPUTS: &str = "inputs";
 
+/// By this id the file that a table goes to is asked for.
+pub const TABLE: &str = "table";
+
 const STATUSES: &str =
-    "Exit status, the worst of several: 0 whole, 1 stopped, 2 refused: no table, or no such record,\n\
-    3 unreadable or out of memory, 64 bad usage, 74 output not written.";
+    "Exit status, the worst of several: 0 whole, 1 stopped, or a record refused, 2 refused: no table,\n\
+    or no such record, 3 unreadable or out of memory, 64 bad usage, 74 output not written.";
 
 const PROTECTED: &str =
     "A record as it lies on the disk is protected: the last two bytes of each 512 are replaced by a\n\
-    check number. What is wanted here is its fixed-up extract, which has its own bytes there again.";
+    check number. What is wanted here is the record fixed up, which has its own bytes there again.";
 
-fn number<'a>(alloc: Global, id: &'a str) -> Arg<'a>
+const EXTRACTS: &str =
+    "An extract has records as they lie on the disk, one behind another; one at position P, from 0 on,\n\
+    has the number of the first and P. The report goes to standard error: how many records were\n\
+    written, how many were left out since they begin otherwise than with FILE, how many were refused.";
+
+const SIZE: &str = "Records have N bytes; as many as the first one tells where it is left out";
+
+const FIRST: &str = "The number of the record at position 0; 0 where it is left out";
+
+const FROM: &str = "Begin with the record at this position; at 0 where it is left out";
+
+const COUNT: &str = "Take N records at most; all that follow where it is left out";
+
+const MFT: &str =
+    "An extract of a raw $MFT; - is standard input, as is none where something is piped in";
+
+// `--ID N`, where N goes by a name
+fn number<'a>(alloc: Global, id: &'a str, name: &'a str, help: &'a str) -> Arg<'a>
     ensures { IsRead (number_rule id.entry.now) result }
 {
     Arg::new(alloc, id)
         .long(id)
-        .value_name("N")
+        .value_name(name)
         .value_parser(value_parser!(u64))
+        .help(help)
 }
 
 fn json<'a>(alloc: Global) -> Arg<'a>
@@ -48,7 +70,10 @@ fn tables<'a>(alloc: Global) -> Arg<'a>
 fn list<'a>(alloc: Global) -> Result<Command<'a>, AllocError>
     ensures { IfOk result (Is (leaf list_shape)) }
 {
-    let base = number(alloc, "base").help(
+    let base = number(
+        alloc,
+        "base",
+        "N",
         "List the record with number N, where it is not the base row that is wanted",
     );
     Command::new(alloc, "list")
@@ -70,10 +95,15 @@ fn rows<'a>(alloc: Global) -> Result<Command<'a>, AllocError>
 fn one_record<'a>(alloc: Global) -> Result<Command<'a>, AllocError>
     ensures { IfOk result (Is (leaf record_shape)) }
 {
-    let number = number(alloc, "number").help(
+    let number = number(
+        alloc,
+        "number",
+        "N",
         "The record's number, which its lines name; 0 where it is left out",
     );
-    let file = Arg::new(alloc, INPUTS).value_name("FILE").help(
+    let file = file(
+        alloc,
+        "FILE",
         "One fixed-up record; - is standard input, as is none where something is piped in",
     );
     Command::new(alloc, "record")
@@ -84,6 +114,40 @@ fn one_record<'a>(alloc: Global) -> Result<Command<'a>, AllocError>
         .arg(number)?
         .arg(json(alloc))?
         .arg(file)
+}
+
+// `[FILE]`, by a name
+fn file<'a>(alloc: Global, name: &'a str, help: &'a str) -> Arg<'a>
+    ensures { IsRead file_rule result }
+{
+    Arg::new(alloc, INPUTS).value_name(name).help(help)
+}
+
+// `-o TABLE`
+fn table<'a>(alloc: Global) -> Arg<'a>
+    ensures { IsRead table_rule result }
+{
+    Arg::new(alloc, TABLE).short('o').value_name("TABLE").help(
+        "Write the table to this file, whole or not at all, and not to standard output",
+    )
+}
+
+fn extract<'a>(alloc: Global) -> Result<Command<'a>, AllocError>
+    ensures { IfOk result (Is (leaf extract_shape)) }
+{
+    let size = number(alloc, "size", "N", SIZE);
+    let first = number(alloc, "first", "N", FIRST);
+    let from = number(alloc, "from", "POSITION", FROM);
+    let count = number(alloc, "count", "N", COUNT);
+    Command::new(alloc, "extract")
+        .about("Make a table of the records of a raw $MFT, each fixed up")
+        .after_help(EXTRACTS)
+        .arg(size)?
+        .arg(first)?
+        .arg(from)?
+        .arg(count)?
+        .arg(table(alloc))?
+        .arg(file(alloc, "MFT", MFT))
 }
 
 fn explain<'a>(alloc: Global) -> Result<Command<'a>, AllocError>
@@ -99,9 +163,9 @@ fn explain<'a>(alloc: Global) -> Result<Command<'a>, AllocError>
         .arg(number)
 }
 
-/// The subcommands, with their options.
-pub fn command<'a>(alloc: Global) -> Result<Command<'a>, AllocError>
-    ensures { IfOk result (Is command_line) }
+// The program without its subcommands.
+fn program<'a>(alloc: Global) -> Command<'a>
+    ensures { Is (leaf program_shape) result }
 {
     Command::new(alloc, "nomutanku")
         .version("2.0.0")
@@ -109,8 +173,16 @@ pub fn command<'a>(alloc: Global) -> Result<Command<'a>, AllocError>
         .after_help(STATUSES)
         .subcommand_required(true)
         .arg_required_else_help(true)
+}
+
+/// The subcommands, with their options.
+pub fn command<'a>(alloc: Global) -> Result<Command<'a>, AllocError>
+    ensures { IfOk result (Is command_line) }
+{
+    program(alloc)
         .subcommand(list(alloc)?)?
         .subcommand(rows(alloc)?)?
         .subcommand(one_record(alloc)?)?
+        .subcommand(extract(alloc)?)?
         .subcommand(explain(alloc)?)
 }

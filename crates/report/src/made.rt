@@ -122,8 +122,8 @@ impl<'a> Source<'a> {
     }
 
     /// The next line: a listing's, a row's, an attribute's or a run's, and behind the last of these how many rows there
-    /// were, or how the walk ended. The list is lent as in a listing. The source is moved on in place: a listing holds a
-    /// walk's state, which has a name's 510 bytes.
+    /// were, or how the walk ended. The list is lent as in a listing. The source is moved on in place: a listing holds
+    /// a walk's state, which has a name's 510 bytes.
     pub fn step(&mut self, parts: &mut [Part]) -> Option<Line>
         ensures { Gives (source_rest parts.old self.old) result (source_rest parts.new self.new) }
     {

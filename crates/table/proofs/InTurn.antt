@@ -66,7 +66,8 @@ module _ (t : List ℕ) (h : TableHeader) (n : RecordNumber) where
   pub record_told_first : h ≡ numbers_at t → record_of t n ≡ option_map (record_told t h) (first_row t h n)
   unfolding record_of held_of first_row
   record_told_first e =
-      subst (λ (x : TableHeader). record_in (held_from t x x.count 0) n ≡ option_map (record_told t h) (first_row t h n))
+      subst
+      (λ (x : TableHeader). record_in (held_from t x x.count 0) n ≡ option_map (record_told t h) (first_row t h n))
       e (told_from h.count 0)
 
   -- the first row with a number is a row of the table

@@ -29,12 +29,16 @@ pub struct Row {
     pub offset: u32,
 }
 
+/// The bytes of a table's header.
 pub const HEADER_SIZE: usize = 20;
 
+/// The bytes of a row of its directory.
 pub const ROW_SIZE: usize = 12;
 
+/// The most rows that a table may have.
 pub const MOST_ROWS: usize = 4096;
 
+/// The first number that is too large for a row's record.
 pub const NUMBER_END: u64 = 0x1_0000_0000_0000;
 
 impl TableHeader {

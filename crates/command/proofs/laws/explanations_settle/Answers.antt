@@ -9,7 +9,8 @@ use Rattle.fields.specs.declared.Cause.TheVariants.{NameEnd, ValueOffset, ValueE
 use Rattle.fields.specs.declared.Cause.TheVariants.{ListNotResident, EntryCut, EntryShort, EntryNameCut}
 use Rattle.fields.specs.declared.Cause.TheVariants.{NoRecord, NoAttribute, PartResident, NoRoom}
 use Rattle.fields.specs.declared.Cause.TheVariants.{BadTable, BadState, RunSize, RunCut, RunEmpty, RunRange}
-use Rattle.fields.specs.declared.Cause.TheVariants.{UsedSize, AttributeStale}
+use Rattle.fields.specs.declared.Cause.TheVariants.{UsedSize, AttributeStale, FixupArray, FixupPair}
+use Rattle.fields.specs.declared.Cause.TheVariants.{TooManyRows, OutputShort, RowNumber}
 use Rattle.command.specs.Explain.{explained}
 use Rattle.command.specs.declared.explain.TheConstants.{CAUSES}
 use Rattle.command.proofs.laws.explanations_settle.Goals as goal
@@ -43,6 +44,11 @@ found RunEmpty = refl
 found RunRange = refl
 found UsedSize = refl
 found AttributeStale = refl
+found FixupArray = refl
+found FixupPair = refl
+found TooManyRows = refl
+found OutputShort = refl
+found RowNumber = refl
 
 -- what is found passed the test
 same : (n m : ℕ) → (m == n) ≡ true → m ≡ n

@@ -13,7 +13,8 @@ pub items-preserved : goal.items-preserved
 items-preserved c =
     let p = c.advance-walked.ensures.paid in let q = c.items.invariant.paid in
     record {
-      same = first_other _ _ _ _ _ _ c.items.invariant.same (told_next (walked c.advance-walked.result c.advance-walked.new.at))
+      same = first_other _ _ _ _ _ _ c.items.invariant.same
+          (told_next (walked c.advance-walked.result c.advance-walked.new.at))
           c.advance-walked.ensures.answer c.in-Ok-Some.item (search rules)
           (sym c.if-not-known_type.ensures) c.if-item-ty.false;
       paid = omega arith;
@@ -22,23 +23,27 @@ items-preserved c =
 pub returns-in-Ok-None : goal.returns-in-Ok-None
 returns-in-Ok-None c =
     ap (λ (a : Outcome Item). report a (c.items.reads + c.advance-walked.result.reads)) c.refused-answer.ensures
-    ∙ first_ends _ _ _ _ _ _ c.items.invariant.same (told_next (walked c.advance-walked.result c.advance-walked.new.at)) c.advance-walked.ensures.answer
-    (search rules)
+    ∙ first_ends _ _ _ _ _ _ c.items.invariant.same
+    (told_next (walked c.advance-walked.result c.advance-walked.new.at))
+    c.advance-walked.ensures.answer (search rules)
 
 pub returns-in-Err : goal.returns-in-Err
 returns-in-Err c = first_refused _ _ _ _ _ _ c.items.invariant.same
-    (told_next (walked c.advance-walked.result c.advance-walked.new.at)) c.advance-walked.ensures.answer _ (search rules)
+    (told_next (walked c.advance-walked.result c.advance-walked.new.at))
+    c.advance-walked.ensures.answer _ (search rules)
 
 pub returns-then-not-known_type : goal.returns-then-not-known_type
 returns-then-not-known_type c =
     ap (λ (a : Result Item Refusal). report (told a) (c.items.reads + c.advance-walked.result.reads))
     c.refuses-answer.ensures
-    ∙ first_unknown _ _ _ _ _ _ c.items.invariant.same (told_next (walked c.advance-walked.result c.advance-walked.new.at)) c.advance-walked.ensures.answer
-    c.in-Ok-Some.item (search rules)
+    ∙ first_unknown _ _ _ _ _ _ c.items.invariant.same
+    (told_next (walked c.advance-walked.result c.advance-walked.new.at))
+    c.advance-walked.ensures.answer c.in-Ok-Some.item (search rules)
     (sym c.if-not-known_type.ensures)
 
 pub returns-then-item-ty : goal.returns-then-item-ty
 returns-then-item-ty c =
-    first_found _ _ _ _ _ _ c.items.invariant.same (told_next (walked c.advance-walked.result c.advance-walked.new.at)) c.advance-walked.ensures.answer
-    c.in-Ok-Some.item (search rules)
+    first_found _ _ _ _ _ _ c.items.invariant.same
+    (told_next (walked c.advance-walked.result c.advance-walked.new.at))
+    c.advance-walked.ensures.answer c.in-Ok-Some.item (search rules)
     (sym c.if-not-known_type.ensures) c.if-item-ty.true

@@ -7,7 +7,8 @@ use Rattle.items.proofs.File.next_inside.Goals as goal
 
 pub overflow_add-at : goal.overflow_add-at
 overflow_add-at c =
-    let w = entry_room _ _ c.in-Some.list _ (rw c.in-Ok-Some.field-0-is at c.in-Ok-Some.ensures.answer) in let x = w.most in
+    let w = entry_room _ _ c.in-Some.list _ (rw c.in-Ok-Some.field-0-is at c.in-Ok-Some.ensures.answer) in
+    let x = w.most in
     let l = rw c.in-Some.is at c.entries.invariant.lies in let y = l.most in
     let z = c.args.self.now.base.most in
     omega arith

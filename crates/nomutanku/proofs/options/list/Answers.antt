@@ -2,14 +2,13 @@
 use Rattle.std.proofs.Common.{rules, codes}
 use Rattle.std.proofs.lemmas.Result.{IfOk-weaker}
 use Rattle.clap.specs.Simple.{new_shape}
-use Rattle.nomutanku.specs.CommandLine.{IsRead, Is, leaf, number_rule}
+use Rattle.nomutanku.specs.CommandLine.{Is, leaf}
 use Rattle.nomutanku.proofs.CommandLine.{with_arg}
 use Rattle.nomutanku.proofs.options.list.Goals as goal
 
 pub returns : goal.returns
 returns c =
     let new : Is (leaf (new_shape (codes "list"))) c.about.result = search rules in
-    let numbered : IsRead (number_rule (codes "base")) c.help-base.result = search rules in
-    let first = with_arg _ _ c.help-base.result _ _ new numbered c.in_ok-arg.ensures in
+    let first = with_arg _ _ c.number-base.result _ _ new c.number-base.ensures c.in_ok-arg.ensures in
     let second = with_arg _ _ c.json.result _ _ first c.json.ensures c.in_ok-arg-2.ensures in
     IfOk-weaker c.arg-3.result _ _ (λ new. with_arg _ new c.tables.result _ _ second c.tables.ensures) c.arg-3.ensures

@@ -1,0 +1,74 @@
+-- Which of an extract's rows a record number finds.
+use Rattle.std.proofs.Common.{ℕ, zero, suc, ◌+◌, ◌<◌, ◌≤◌, ◌≡◌, refl, sym, subst, ◌∙◌, arith, ⊎_elim, inr}
+use Rattle.std.proofs.Common.{List, [], ◌∷◌, ◌++◌, All, ◌⊎◌}
+use Rattle.std.proofs.Math.Nat.{eq-or-lt_of_le, le_of_suc-le-suc}
+use Rattle.std.proofs.lemmas.List.Elements.{All-head, All-tail, All-weaker}
+use Rattle.std.specs.Prelude.{Some, None}
+use Rattle.fields.specs.declared.RecordNumber.{RecordNumber}
+use Rattle.fields.proofs.Cases.{eq-y, eq-n}
+use Rattle.table.specs.Held.{Held, record_in}
+use Rattle.extract.specs.Fixup.{Verdict, left_out, refused, sound}
+use Rattle.extract.specs.Records.{verdict_at, number_at, row_by, rows_below}
+use Rattle.extract.specs.Laws.{found_by}
+use Rattle.extract.specs.declared.Extract.{Extract}
+use Rattle.extract.proofs.Fits.{NumberedAt, NumberedBelow, row_numbered, rows_numbered}
+
+module _ (n : RecordNumber) where
+  abbrev Other : Held → Type 0
+  Other r = r.number.0 ≡ n.0 → ⊥
+
+  -- behind rows of other numbers
+  found_behind : (xs ys : List Held) → All Other xs → record_in (xs ++ ys) n ≡ record_in ys n
+  unfolding record_in
+  found_behind [] ys a = refl
+  found_behind (r ∷ rs) ys a =
+      sym (eq-n r.number.0 n.0 (Some r.bytes) _ (All-head Other r rs a)
+      (sym (found_behind rs ys (All-tail Other r rs a))))
+
+  none_found : (xs : List Held) → All Other xs → record_in xs n ≡ None
+  unfolding record_in
+  none_found [] a = refl
+  none_found (r ∷ rs) a =
+      sym (eq-n r.number.0 n.0 (Some r.bytes) _ (All-head Other r rs a) (sym (none_found rs (All-tail Other r rs a))))
+
+  -- in front of rows of other numbers
+  found_before : (xs ys : List Held) → All Other ys → record_in (xs ++ ys) n ≡ record_in xs n
+  unfolding record_in
+  found_before [] ys a = none_found ys a
+  found_before (r ∷ rs) ys a = rw (found_before rs ys a) refl
+
+module _ (x : Extract) where
+  none_below : (m : ℕ) (n : RecordNumber) → (n.0 < x.first.0) ⊎ (x.first.0 + m ≤ n.0) → All (Other n) (rows_below x m)
+  none_below m n o =
+      All-weaker (NumberedBelow x m) (Other n)
+      (λ r h e. let a = h.0 in let b = h.1 in ⊎_elim (λ l. omega arith) (λ l. omega arith) o)
+      (rows_below x m) (rows_numbered x m)
+
+  none_at : (i m : ℕ) (v : Verdict) → i < m → All (Other (number_at x i)) (row_by x m v)
+  none_at i m v l =
+      All-weaker (NumberedAt x m) (Other (number_at x i)) (λ r h e. omega arith) (row_by x m v) (row_numbered x m v)
+
+  row_found : (i : ℕ) (v : Verdict) → record_in (row_by x i v) (number_at x i) ≡ found_by v
+  unfolding record_in
+  row_found i left_out = refl
+  row_found i (refused c) = refl
+  row_found i (sound b) = sym (eq-y (number_at x i).0 (number_at x i).0 (Some b) _ refl refl)
+
+  -- a record's number finds its own row
+  pub found_below : (n i : ℕ) → i < n → record_in (rows_below x n) (number_at x i) ≡ found_by (verdict_at x i)
+  unfolding rows_below
+  found_below zero i l = absurd (omega arith)
+  found_below (suc m) i l =
+      let v = verdict_at x m in
+      ⊎_elim
+      (λ q. subst (λ (k : ℕ). record_in (rows_below x m ++ row_by x m v) (number_at x k) ≡ found_by (verdict_at x k))
+      (sym q)
+      (found_behind (number_at x m) (rows_below x m) (row_by x m v) (none_below m (number_at x m) (inr (omega arith)))
+      ∙ row_found m v))
+      (λ k. found_before (number_at x i) (rows_below x m) (row_by x m v) (none_at i m v k) ∙ found_below m i k)
+      (eq-or-lt_of_le (le_of_suc-le-suc l))
+
+  -- and a number that no record has finds none
+  pub other_below : (m : ℕ) (n : RecordNumber) → (n.0 < x.first.0) ⊎ (x.first.0 + m ≤ n.0)
+      → record_in (rows_below x m) n ≡ None
+  other_below m n o = none_found n (rows_below x m) (none_below m n o)

@@ -1,0 +1,17 @@
+-- RULES 23.2: which extracts are taken, 1.
+use Rattle.std.specs.Prelude.{ℕ, ◌%◌, ◌&&◌, List, Bool, length, leb, eqb}
+use Rattle.fields.specs.Pick.{pick}
+use Rattle.fields.specs.Answer.{Outcome, gives, refuses, refusal}
+use Rattle.fields.specs.declared.Cause.TheVariants.{RecordLength}
+
+-- from 512 to 4,096 bytes, in whole 512s
+unfoldable pub good_size : ℕ → Bool
+good_size n = leb 512 n && leb n 4096 && eqb (n % 512) 0
+
+-- records of such a size, and no broken last one
+unfoldable pub whole_records : ℕ → List ℕ → Bool
+whole_records size s = good_size size && eqb (length s % size) 0
+
+-- 1: another record size, or a broken last record. The fault lies in no record: 0 is told
+unfoldable pub sizes_checked : ℕ → List ℕ → Outcome Unit
+sizes_checked size s = pick (whole_records size s) (gives tt) (refuses (refusal RecordLength (record { 0 = 0 }) 0))
