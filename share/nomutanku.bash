@@ -14,7 +14,7 @@ _nomutanku() {
     done
     case $command in
     '') options='list rows record extract explain help --help --version' ;;
-    list) options='--base --json --help' ;;
+    list) options='--base --mft --size --first --json --help' ;;
     rows) options='--json --help' ;;
     record) options='--number --json --help' ;;
     extract) options='--size --first --from --count -o --help' ;;

@@ -1,8 +1,8 @@
 """Each rule and each refusal has a wrong program, and each theorem four: docs/EDITS.md names them, and they are there.
 
-An edit of src/ counts for a rule. A theorem is a function of a crate's src/laws.rt, or one that bound gives; its edits
-are those of its crate whose first line names it, as what is not proved with them. A rule that no program can get wrong
-says why in its row.
+An edit of src/ counts for a rule. A theorem is a function of a crate's src/laws.rt, or one that bound or agreement
+gives; its edits are those of its crate whose first line names it, as what is not proved with them. A rule that no
+program can get wrong says why in its row.
 """
 import glob
 import os
@@ -18,8 +18,8 @@ PAGE, RULES = "docs/EDITS.md", "docs/RULES.md"
 REASONS = ("none: ", "by running: ", "a theorem: ")
 # 19 is the table of refusals and 20 that of cases: each row of theirs is asked for on its own
 TABLES = {"19", "20"}
-# the crate whose calls are theorems all, beside those that have laws, and how many edits a theorem has at least
-BOUND = "bound"
+# the crates whose calls are theorems all, beside those that have laws, and how many edits a theorem has at least
+THEOREMS = {"bound", "agreement"}
 LEAST = 4
 CALL = re.compile(r"^pub fn (\w+)[<(]", re.MULTILINE)
 
@@ -43,13 +43,13 @@ def refusals_in(text):
 
 
 def theorems_there():
-    """Each theorem, as crate::laws::name or bound::name, in the order of crates.txt."""
+    """Each theorem, as crate::laws::name or crate::name, in the order of crates.txt."""
     found = []
     for crate in re.findall(r"^(\w+)[^#\n]*:", read("crates.txt"), re.MULTILINE):
         laws = "crates/%s/src/laws.rt" % crate
         if os.path.exists(os.path.join(ROOT, laws)):
             found += ["%s::laws::%s" % (crate, name) for name in CALL.findall(read(laws))]
-        elif crate == BOUND:
+        elif crate in THEOREMS:
             found += ["%s::%s" % (crate, name) for name in CALL.findall(read("crates/%s/src/lib.rt" % crate))]
     return found
 

@@ -182,6 +182,17 @@ def test_many_rows(test):
                 test.put(text, 512, number, buffer(min(room, length_of(MOST_ROWS, 512))))
 
 
+def test_base_rows(test):
+    """A base record that is asked for is found by its number; where it is not written there is no base row."""
+    rows = [left_out(512), sound(512, 1), torn(512), sound(512, 2), bad_array(512, array=507), sound(512, 3)]
+    text = b"".join(record.raw for record in rows)
+    for first in (0, 1, 3, 40, ROW_END - 6, ROW_END - 5, LAST - 6, LAST - 5, LAST - 3, LAST):
+        for base in {*range(8), *(first + d for d in range(-1, 8)), LAST}:
+            if 0 <= base <= LAST:
+                test.put(text, 512, first, buffer(2000), base)
+        test.put(b"", 512, first, buffer(30), first)
+
+
 # Extracts at random.
 
 def random_record(chance, size):
@@ -223,7 +234,8 @@ def test_at_random(test):
         written = sum(text[k * size:k * size + 4] == b"FILE" for k in range(count))
         room = length_of(written, size) + chance.choice((0, 0, 0, 0, 1, 100, -1, -12, -size - 12))
         told = size if chance.random() < 0.97 else size + chance.choice((-1, 1, 512, 8))
-        test.put(text, told, number, buffer(max(room, 0), chance.randrange(251)))
+        base = min(number + chance.randrange(count + 2), LAST) if chance.random() < 0.3 else None
+        test.put(text, told, number, buffer(max(room, 0), chance.randrange(251)), base)
 
 
 def ended(test):

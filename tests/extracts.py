@@ -36,6 +36,11 @@ class Record(NamedTuple):
     fate: Union[bytes, int, None]
 
 
+def text_of(case):
+    """The records of a case one behind another, and what it has behind them where it is broken."""
+    return b"".join(record.raw for record in case.records) + case.behind
+
+
 class Case(NamedTuple):
     """An extract of records of this size, and a buffer that has so many bytes more than the table needs, or fewer. The
     call is refused by this number at this place, or is not."""
@@ -48,10 +53,7 @@ class Case(NamedTuple):
     refused: Optional[tuple] = None
     behind: bytes = b""
 
-    @property
-    def text(self):
-        """The extract, with bytes behind its records where it is broken."""
-        return b"".join(record.raw for record in self.records) + self.behind
+    text = property(text_of)
 
     @property
     def rows(self):

@@ -1,27 +1,31 @@
 """A question to the program `ask`, in bytes, as crates/ask/src/question.rt reads it.
 
 A byte for what is asked (its kind), a byte for how many numbers come with it, each number as a byte for its tag and
-eight for its value; then the record, the table, and what a key's name begins with, up to its last byte that is not 0.
-A number that is 0 does not come. A call that asks for more takes a new tag, behind the others: no other question
-changes, and no other test.
+eight for its value; then the record, the table, what a key's name begins with, up to its last byte that is not 0, and
+the numbers of an extract's records, eight bytes each. A number that is 0 does not come. A call that asks for more takes
+a new tag, behind the others: no other question changes, and no other test.
 """
 import functools
 import struct
 
 # Where the kinds of question of each layer begin: crates/ask/src/main.rt has them all.
 ON_RECORDS, ON_TABLES, ON_ITEMS, ON_PARTS, ON_LISTINGS, ON_RUNS, ON_EXTRACTS = 0, 16, 23, 27, 30, 32, 34
+ON_CHOSEN, ON_REFERENCES = 35, 36
 
 # The numbers by their tags.
 TAGS = {
     name: tag for tag, name in enumerate((
         "number", "place", "wanted", "list", "list_from", "list_to", "key", "ty", "instance", "most", "record_bytes",
         "table_bytes", "buffer", "last", "sum", "run_bytes", "units", "name_bytes", "size",
+        "listed", "has_base", "base",
     ))
 }
 
-# How many bytes a question's record and table may have together, and how many a key's name has.
+# How many bytes a question's record and table may have together, how many a key's name has, and how many numbers may be
+# listed.
 ROOM = 4_300_000
 NAME = 510
+MOST_LISTED = 8_400
 
 LAST = 2 ** 64 - 1
 
@@ -41,10 +45,15 @@ def head(kind, **numbers):
     return form(len(flat) // 2).pack(kind, len(flat) // 2, *flat)
 
 
-def question(kind, record=b"", table=b"", name=b"", **numbers):
+def packed_numbers(listed):
+    """The numbers of an extract's records."""
+    return struct.pack("<%dQ" % len(listed), *listed)
+
+
+def question(kind, record=b"", table=b"", name=b"", listed=(), **numbers):
     """A question packed, with the numbers that its kind reads."""
-    sizes = {"record_bytes": len(record), "table_bytes": len(table), "name_bytes": len(name)}
-    return head(kind, **numbers, **sizes) + record + table + name
+    sizes = {"record_bytes": len(record), "table_bytes": len(table), "name_bytes": len(name), "listed": len(listed)}
+    return head(kind, **numbers, **sizes) + record + table + name + packed_numbers(listed)
 
 
 def list_numbers(rest):
@@ -55,6 +64,11 @@ def list_numbers(rest):
 def name_told(key):
     """The bytes of a skip key's name that come: the others are 0."""
     return key.name.rstrip(b"\0")
+
+
+def base_told(base):
+    """The base record that is asked for: a flag and its number."""
+    return {} if base is None else {"has_base": 1, "base": base}
 
 
 def key_told(key):

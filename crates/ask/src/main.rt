@@ -5,6 +5,7 @@
 mod in_extract;
 mod in_listing;
 mod in_record;
+mod in_references;
 mod in_runs;
 mod in_table;
 mod in_walk;
@@ -12,13 +13,14 @@ mod numbers;
 mod question;
 mod tell;
 
+use fields::RecordNumber;
 use question::Question;
 use std::io;
 use std::io::{BufReader, BufWriter, Read, Write};
 use tell::{line, view};
 
 // The questions on one record; the kinds behind them are the next function's. A kind is a byte, matched in
-// these two alone: an enum of thirty names would be made from the byte by the same list.
+// these functions alone: an enum of thirty names would be made from the byte by the same list.
 fn answer_on_record<W: Write>(out: &mut W, q: &Question<'_>) -> io::Result<()> {
     match q.kind {
         0 => line(out, &in_record::header(q)),
@@ -41,7 +43,7 @@ fn answer_on_record<W: Write>(out: &mut W, q: &Question<'_>) -> io::Result<()> {
     }
 }
 
-// Those on entries, tables, walks, listings and cluster runs. A kind that there is not has no answer.
+// Those on entries, tables, walks, listings, cluster runs and references. A kind that there is not has no answer.
 fn answer_on_file<W: Write>(out: &mut W, q: &Question<'_>) -> io::Result<()> {
     match q.kind {
         16 => line(out, &in_table::entry(q)),
@@ -62,14 +64,16 @@ fn answer_on_file<W: Write>(out: &mut W, q: &Question<'_>) -> io::Result<()> {
         31 => in_listing::written(out, q),
         32 => line(out, &in_runs::step(q)),
         33 => in_runs::all(out, q),
+        36 => in_references::of(out, q),
         _ => Ok(()),
     }
 }
 
-// The question on extracts, whose call wants a room to write to; or one of the others.
+// The questions on extracts, whose calls want a room to write to; or one of the others.
 fn answer<W: Write>(out: &mut W, q: &Question<'_>, room: &mut [u8]) -> io::Result<()> {
     match q.kind {
         34 => in_extract::write(out, q, room),
+        35 => in_extract::write_chosen(out, q, room),
         _ => answer_on_record(out, q),
     }
 }
@@ -79,12 +83,13 @@ fn answer<W: Write>(out: &mut W, q: &Question<'_>, room: &mut [u8]) -> io::Resul
 fn answer_each<R: Read, W: Write>(
     input: &mut R,
     space: &mut [u8],
+    listed: &mut [RecordNumber],
     room: &mut [u8],
     out: &mut W,
 ) -> io::Result<()> {
     // as many as come: a loop without a bound would have to be shown to end
     for _ in 0..u64::MAX {
-        answer(out, &question::read(input, space)?, room)?;
+        answer(out, &question::read(input, space, listed)?, room)?;
     }
     Ok(())
 }
@@ -93,8 +98,9 @@ fn answer_all<R: Input + Print + AllocGlobal>(rt: &R) -> io::Result<()> {
     let mut input = BufReader::new(rt.alloc(), rt.reader())?;
     let mut out = BufWriter::new(rt.alloc(), io::writer(rt))?;
     let mut space = question::room(rt.alloc())?;
+    let mut listed = question::listed_room(rt.alloc())?;
     let mut room = question::room(rt.alloc())?;
-    let _ = answer_each(&mut input, &mut space, &mut room, &mut out);
+    let _ = answer_each(&mut input, &mut space, &mut listed, &mut room, &mut out);
     out.flush()
 }
 

@@ -1,8 +1,8 @@
 //! Questions, as they come on standard input: a byte for what is asked, a byte for how many numbers come with it,
 //! each number as a byte for its tag and eight for its value, little-endian; then the bytes of the record, those of
-//! the table, and those that a key's name begins with, as many as three of the numbers say; the name's others are 0.
-//! A number that does not come is 0. So a call that asks for more takes a new tag, behind the others, and no other
-//! question changes.
+//! the table, those that a key's name begins with, and the numbers of an extract's records, eight bytes each, as many
+//! as four of the numbers say; the name's others are 0. A number that does not come is 0. So a call that asks for more
+//! takes a new tag, behind the others, and no other question changes.
 use fields::RecordNumber;
 use fields::bytes::{u16_at, u32_at, u64_at};
 use items::{Key, Rest, State};
@@ -53,18 +53,29 @@ const NAME_BYTES: usize = 136;
 
 const SIZE: usize = 144;
 
-const NUMBERS: usize = 152;
+const LISTED: usize = 152;
+
+const HAS_BASE: usize = 160;
+
+const BASE: usize = 168;
+
+const NUMBERS: usize = 176;
 
 /// How many bytes the record and the table may have together: as many as an extract of one record too many and a
 /// buffer for the longest table of its size.
 const ROOM: usize = 4_300_000;
+
+/// How many numbers may be listed: one for each of the smallest records that there is room for, and a few more.
+const MOST_LISTED: usize = 8_400;
 
 /// A question, for every call that there is: each reads what it needs. A state has the place as its raw place,
 /// the list and the key; `ty` stands beside a key, since other calls ask for it too, and `instance` is theirs alone.
 /// `most` is how many calls a walk makes, or the room for parts; `buffer` the room for a listing's text. `last` and
 /// `sum` go from one run to the next, and `run_bytes` is how many bytes of a record hold runs. The record is, for an
 /// entry, the rest of a list, and for one run the run bytes; for an extract it is the extract, of records of `size`
-/// bytes, and the table is what its buffer holds. The kind is the byte that came: `main` has the kinds.
+/// bytes, and the table is what its buffer holds; `listed` are the numbers of its records where these are chosen, and
+/// `base` is the record that its table is to have for its base record. The kind is the byte that came: `main` has the
+/// kinds.
 #[derive(Clone, Copy)]
 pub struct Question<'a> {
     pub kind: u8,
@@ -81,6 +92,8 @@ pub struct Question<'a> {
     pub sum: u64,
     pub run_bytes: usize,
     pub size: usize,
+    pub base: Option<RecordNumber>,
+    pub listed: &'a [RecordNumber],
     pub record: &'a [u8],
     pub table: &'a [u8],
 }
@@ -90,6 +103,7 @@ impl<'a> Question<'a> {
         kind: u8,
         numbers: &[u8; NUMBERS],
         name: [u8; MOST_NAME],
+        listed: &'a [RecordNumber],
         record: &'a [u8],
         table: &'a [u8],
     ) -> Question<'a> {
@@ -103,6 +117,7 @@ impl<'a> Question<'a> {
             units: numbers[UNITS],
             name,
         };
+        let base = RecordNumber(u64_at(numbers, BASE));
         Question {
             kind,
             number: RecordNumber(u64_at(numbers, NUMBER)),
@@ -118,6 +133,12 @@ impl<'a> Question<'a> {
             sum: u64_at(numbers, SUM),
             run_bytes: u64_at(numbers, RUN_BYTES) as usize,
             size: u64_at(numbers, SIZE) as usize,
+            base: if numbers[HAS_BASE] != 0 {
+                Some(base)
+            } else {
+                None
+            },
+            listed,
             record,
             table,
         }
@@ -136,6 +157,11 @@ impl<'a> Question<'a> {
 /// Room for the bytes of a question.
 pub fn room(alloc: Global) -> Result<Vec<u8>, AllocError> {
     vec![in alloc; 0; ROOM]
+}
+
+/// Room for the numbers that a question lists.
+pub fn listed_room(alloc: Global) -> Result<Vec<RecordNumber>, AllocError> {
+    vec![in alloc; RecordNumber(0); MOST_LISTED]
 }
 
 // So many numbers, each at its place. A tag that there is not is an error.
@@ -163,9 +189,30 @@ fn name<R: Read>(input: &mut R, count: usize) -> io::Result<[u8; MOST_NAME]> {
     Ok(whole)
 }
 
-/// The next question, its bytes put at the front of the buffer. An input that ends here is an error, and so is
-/// a question that is cut, has no room, or has more bytes for a name than that has.
-pub fn read<'a, R: Read>(input: &mut R, space: &'a mut [u8]) -> io::Result<Question<'a>> {
+// So many listed numbers, put at the front of their room.
+fn listed<'a, R: Read>(
+    input: &mut R,
+    count: usize,
+    room: &'a mut [RecordNumber],
+) -> io::Result<&'a [RecordNumber]> {
+    let Some(numbers) = room.get_mut(..count) else {
+        return Err(io::Error::from(ErrorKind::InvalidData));
+    };
+    for number in numbers.iter_mut() {
+        let mut bytes = [0u8; 8];
+        input.read_exact(&mut bytes)?;
+        *number = RecordNumber(u64_at(&bytes, 0));
+    }
+    Ok(numbers)
+}
+
+/// The next question, its bytes put at the front of the buffer, and its listed numbers at that of theirs. An input that
+/// ends here is an error, and so is a question that is cut, has no room, or has more bytes for a name than that has.
+pub fn read<'a, R: Read>(
+    input: &mut R,
+    space: &'a mut [u8],
+    room: &'a mut [RecordNumber],
+) -> io::Result<Question<'a>> {
     let mut head = [0u8; HEAD];
     input.read_exact(&mut head)?;
     let given = numbers(input, head[1])?;
@@ -176,6 +223,7 @@ pub fn read<'a, R: Read>(input: &mut R, space: &'a mut [u8]) -> io::Result<Quest
     };
     input.read_exact(bytes)?;
     let name = name(input, u64_at(&given, NAME_BYTES) as usize)?;
+    let listed = listed(input, u64_at(&given, LISTED) as usize, room)?;
     let (record, table) = bytes.split_at(record);
-    Ok(Question::of(head[0], &given, name, record, table))
+    Ok(Question::of(head[0], &given, name, listed, record, table))
 }

@@ -1,10 +1,11 @@
 //! Answers in words and decimal numbers.
-use extract::{Extracted, RefusedRecord};
-use fields::{Counted, Refusal};
+use extract::{Extracted, Judged, RefusedRecord};
+use fields::{Counted, RecordNumber, Refusal};
 use items::{Item, Key, Rest, State, Walked};
 use list::{Entry, Listed};
 use parts::Part;
 use record::{Attribute, FullHeader, RecordHeader, Span, Value, View};
+use references::{References, Rising};
 use runs::{Decoded, Run};
 use std::io;
 use std::io::Write;
@@ -175,6 +176,41 @@ impl Tell for Extracted {
             Some(first) => first.tell(out),
             None => out.write_all(b"none"),
         }
+    }
+}
+
+impl Tell for Judged {
+    fn tell<W: Write>(&self, out: &mut W) -> io::Result<()> {
+        match self {
+            Judged::LeftOut => out.write_all(b"left"),
+            Judged::Refused(cause) => write!(out, "{}", cause.number()),
+            Judged::Sound => out.write_all(b"sound"),
+        }
+    }
+}
+
+fn numbers<W: Write>(out: &mut W, word: &str, numbers: &[RecordNumber]) -> io::Result<()> {
+    out.write_all(word.as_bytes())?;
+    for number in numbers {
+        write!(out, " {}", number.0)?;
+    }
+    Ok(())
+}
+
+impl Tell for References {
+    fn tell<W: Write>(&self, out: &mut W) -> io::Result<()> {
+        numbers(out, "references", &self.numbers[..self.count])?;
+        out.write_all(b" ")?;
+        match &self.answer {
+            Ok(()) => out.write_all(b"end"),
+            Err(r) => r.tell(out),
+        }
+    }
+}
+
+impl Tell for Rising {
+    fn tell<W: Write>(&self, out: &mut W) -> io::Result<()> {
+        numbers(out, "rising", &self.numbers[..self.count])
     }
 }
 

@@ -1,13 +1,12 @@
 -- The table that is made of an extract (RULES 23), or why none is.
-use Rattle.std.specs.Prelude.{ℕ, ◌≡◌, ◌⊎◌, List, length, false, Result, Ok, Err}
+use Rattle.std.specs.Prelude.{ℕ, ◌≡◌, ◌⊎◌, List, length, false, None, Result, Ok, Err}
 use Rattle.fields.specs.Answer.{gives, refuses}
 use Rattle.fields.specs.declared.RecordNumber.{RecordNumber}
 use Rattle.fields.specs.declared.Refusal.{Refusal}
-use Rattle.written.specs.Layout.{written}
 use Rattle.extract.specs.Size.{whole_records}
-use Rattle.extract.specs.Records.{rows_of}
-use Rattle.extract.specs.Extracted.{answer_of}
+use Rattle.extract.specs.Extracted.{table_of_extract, answer_of}
 use Rattle.extract.specs.declared.Extract.{Extract}
+use Rattle.extract.specs.declared.numbers.Numbers.TheVariants.{From}
 use Rattle.command.specs.Extraction.{first_of, size_of}
 use Rattle.command.specs.Read.{IsUnread}
 use Rattle.command.specs.Unmade.{by_sizes, by_refusal}
@@ -23,12 +22,12 @@ IsSkipped (Err why) = IsUnread why
 
 -- an extract with these bytes, record size and first number
 abbrev pub IsOf : ℕ → RecordNumber → List ℕ → Extract → Type 0
-IsOf size first s x = (x.bytes.now ≡ s) × (x.size ≡ size) × (x.first ≡ first)
+IsOf size first s x = (x.bytes.now ≡ s) × (x.size ≡ size) × (x.numbers ≡ From first) × (x.base ≡ None)
 
 -- what is made of an extract: the table of its rows and what is reported, or why the call refuses it
 abbrev pub Fills : Extract → Result Made Reason → Type 0
 Fills x (Ok made) =
-    (answer_of x ≡ gives made.extracted) × (made.table.items ≡ written x.size made.extracted.written (rows_of x))
+    (answer_of x ≡ gives made.extracted) × (made.table.items ≡ table_of_extract x)
 Fills x (Err why) = (r : Refusal) × (answer_of x ≡ refuses r) × (why ≡ Unmade (by_refusal r))
 
 -- 1, for the record size or for a broken last record

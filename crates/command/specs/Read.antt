@@ -14,6 +14,8 @@ use Rattle.command.specs.declared.reason.Reason.TheVariants.{
   SizeUntold,
   Unmade,
   RecordRefused,
+  Absent,
+  Lost,
   Unreadable,
   OutOfMemory,
 }
@@ -37,3 +39,5 @@ IsUnread (Unfit misfit cause) = ⊥
 IsUnread SizeUntold = ⊥
 IsUnread (Unmade why) = ⊥
 IsUnread (RecordRefused first) = ⊥
+IsUnread (Absent n why) = ⊥
+IsUnread (Lost n of why) = ⊥

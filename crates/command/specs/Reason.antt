@@ -25,6 +25,8 @@ use Rattle.command.specs.declared.reason.Reason.TheVariants.{
   SizeUntold,
   Unmade,
   RecordRefused,
+  Absent,
+  Lost,
   Unreadable,
   OutOfMemory,
 }
@@ -41,6 +43,8 @@ status_of (Unfit misfit cause) = status.Refused
 status_of SizeUntold = status.Refused
 status_of (Unmade why) = status.Refused
 status_of (RecordRefused first) = status.Stopped
+status_of (Absent n why) = status.Refused
+status_of (Lost n of why) = status.Stopped
 status_of (Unreadable error) = status.Unreadable
 status_of OutOfMemory = status.Unreadable
 

@@ -2,7 +2,7 @@
 ghost use Rattle.std.specs.Prelude.{◌≡◌};
 ghost use Rattle.command.specs.Reason.{status_of, table_reason, refused_reason, ending_reason};
 
-use crate::{Asked, FirstRefused, Misfit, Status, Unmade};
+use crate::{Absence, Asked, FirstRefused, Misfit, Status, Unmade};
 use fields::{Cause, RecordNumber};
 use lines::Ending;
 use record::is_file;
@@ -33,6 +33,10 @@ pub enum Reason {
     Unmade(Unmade),
     #[error("{0}")]
     RecordRefused(FirstRefused),
+    #[error("record {number}: {1}", number = .0.0)]
+    Absent(RecordNumber, Absence),
+    #[error("record {number}, to which a list of record {of} refers: {2}", number = .0.0, of = .1.0)]
+    Lost(RecordNumber, RecordNumber, Absence),
     #[error("{0}")]
     Unreadable(io::Error),
     #[error("out of memory")]
@@ -63,7 +67,7 @@ impl Reason {
         ensures { result ≡ status_of self }
     {
         match self {
-            Reason::Stopped(_) | Reason::RecordRefused(_) => Status::Stopped,
+            Reason::Stopped(_) | Reason::RecordRefused(_) | Reason::Lost(..) => Status::Stopped,
             Reason::Empty
             | Reason::RawRecord
             | Reason::NoTable(_)
@@ -71,7 +75,8 @@ impl Reason {
             | Reason::NoRecord(_)
             | Reason::Unfit(..)
             | Reason::SizeUntold
-            | Reason::Unmade(_) => Status::Refused,
+            | Reason::Unmade(_)
+            | Reason::Absent(..) => Status::Refused,
             Reason::Unreadable(_) | Reason::OutOfMemory => Status::Unreadable,
         }
     }

@@ -13,7 +13,7 @@ use Rattle.written.proofs.Bytes.{header_long}
 use Rattle.written.proofs.Pieces.{begin, follow}
 use Rattle.extract.specs.Fixup.{Verdict, sound, verdict_of, good_array, fixed_up}
 use Rattle.extract.specs.Records.{record_count, record_at, verdict_at, number_at, row_by, rows_below, rows_of}
-use Rattle.extract.specs.Told.{told_verdict}
+use Rattle.extract.specs.Judge.{told_verdict}
 use Rattle.extract.specs.declared.Extract.{Extract}
 use Rattle.extract.specs.declared.fixup.Judged.{Judged}
 use Rattle.extract.specs.declared.fixup.Judged.TheVariants as judged
@@ -22,12 +22,12 @@ use Rattle.extract.proofs.Rows.{rows_more, number_fits}
 use Rattle.extract.proofs.Lengths.{sound_is, sound_length}
 
 -- the header alone
-pub header_stands : (size k : ℕ) (old b : List ℕ) → b ≡ header_bytes size k k → table_length size k ≤ length old
-    → Stands size k k [] old (b ++ drop 20 old)
-header_stands size k old b e fits =
-    let h = header_bytes size k k in let l : 0 + length h ≡ 20 = omega (arith, header_long size k k) in
-    subst (λ (t : List ℕ). Stands size k k [] old (t ++ drop 20 old)) (sym e)
-    (subst (λ (n : ℕ). Stands size k k [] old (h ++ drop n old)) l (begin size k k old fits))
+pub header_stands : (size base k : ℕ) (old b : List ℕ) → b ≡ header_bytes size base k → table_length size k ≤ length old
+    → Stands size base k [] old (b ++ drop 20 old)
+header_stands size base k old b e fits =
+    let h = header_bytes size base k in let l : 0 + length h ≡ 20 = omega (arith, header_long size base k) in
+    subst (λ (t : List ℕ). Stands size base k [] old (t ++ drop 20 old)) (sym e)
+    (subst (λ (n : ℕ). Stands size base k [] old (h ++ drop n old)) l (begin size base k old fits))
 
 module _ (x : Extract) (i : ℕ) where
   -- the row of a record that is written
@@ -88,11 +88,12 @@ module _ (x : Extract) (i : ℕ) where
       let at = records_from k + size * row in
       over at (fixed_up (record_at x i)) (over (records_from row) (row_bytes (number_at x i) at) t)
 
-  pub row_stands : (size k row : ℕ) (old t s : List ℕ) → Next k → x.size ≡ size → table_length size k ≤ length old
-      → row ≡ length (rows_below x i) → s ≡ next_table size k row t → Stands size k k (rows_below x i) old t
-      → Stands size k k (rows_below x (i + 1)) old s
-  row_stands size k row old t s n z fits r e stands =
-      subst (λ (u : List ℕ). Stands size k k (rows_below x (i + 1)) old u)
+  pub row_stands : (size base k row : ℕ) (old t s : List ℕ) → Next k → x.size ≡ size
+      → table_length size k ≤ length old → row ≡ length (rows_below x i) → s ≡ next_table size k row t
+      → Stands size base k (rows_below x i) old t → Stands size base k (rows_below x (i + 1)) old s
+  row_stands size base k row old t s n z fits r e stands =
+      subst (λ (u : List ℕ). Stands size base k (rows_below x (i + 1)) old u)
       (sym (e ∙ ap (λ (j : ℕ). next_table size k j t) r))
-      (subst (λ (rs : List Held). Stands size k k rs old (next_table size k (length (rows_below x i)) t)) (sym n.rows)
-      (follow size k k (rows_below x i) next_row old t fits stands n.more (n.long ∙ z)))
+      (subst (λ (rs : List Held). Stands size base k rs old (next_table size k (length (rows_below x i)) t))
+      (sym n.rows)
+      (follow size base k (rows_below x i) next_row old t fits stands n.more (n.long ∙ z)))

@@ -15,10 +15,13 @@ use Rattle.written.specs.Laws.{Rising, Fit}
 use Rattle.extract.specs.Size.{good_size, whole_records}
 use Rattle.extract.specs.Fixup.{Verdict, left_out, refused, sound}
 use Rattle.extract.specs.Records.{record_count, verdict_at, number_at, row_by, rows_below, rows_of}
+use Rattle.extract.specs.Base.{base_in}
 use Rattle.extract.specs.Extracted.{late_in, refused_late, numbers_checked, report_of, answer_of, extract_of}
 use Rattle.extract.specs.declared.Extract.{Extract}
 use Rattle.extract.specs.declared.tally.Extracted.{Extracted}
 use Rattle.extract.proofs.Rows.{none_late, row_fits}
+use Rattle.extract.proofs.Risen.{numbers_rise}
+use Rattle.extract.proofs.Bases.{base_few}
 use Rattle.extract.proofs.Lengths.{sound_length}
 
 -- rows that rise from further on
@@ -47,7 +50,7 @@ good_sized size s e =
 module _ (x : Extract) where
   -- a record's row has its number
   abbrev pub NumberedAt : ℕ → Held → Type 0
-  NumberedAt i r = r.number.0 ≡ x.first.0 + i
+  NumberedAt i r = r.number.0 ≡ (number_at x i).0
 
   pub row_numbered : (i : ℕ) (v : Verdict) → All (NumberedAt i) (row_by x i v)
   row_numbered i left_out = All-nil (NumberedAt i)
@@ -55,8 +58,9 @@ module _ (x : Extract) where
   row_numbered i (sound b) =
       All-cons (NumberedAt i) (record { number = number_at x i; bytes = b }) [] refl (All-nil (NumberedAt i))
 
+  -- and each row below a position that of a record in front of it
   abbrev pub NumberedBelow : ℕ → Held → Type 0
-  NumberedBelow n r = (x.first.0 ≤ r.number.0) × (r.number.0 < x.first.0 + n)
+  NumberedBelow n r = (i : ℕ) × (i < n) × (r.number.0 ≡ (number_at x i).0)
 
   pub rows_numbered : (n : ℕ) → All (NumberedBelow n) (rows_below x n)
   unfolding rows_below
@@ -64,9 +68,10 @@ module _ (x : Extract) where
   rows_numbered (suc i) =
       let v = verdict_at x i in
       All-append (NumberedBelow (suc i)) (rows_below x i) (row_by x i v)
-      (All-weaker (NumberedBelow i) (NumberedBelow (suc i)) (λ r h. let a = h.0 in let b = h.1 in (a, omega arith))
+      (All-weaker (NumberedBelow i) (NumberedBelow (suc i))
+      (λ r h. let l : h.0 < suc i = omega (arith, h.1) in (h.0, l, h.2))
       (rows_below x i) (rows_numbered i))
-      (All-weaker (NumberedAt i) (NumberedBelow (suc i)) (λ r h. (omega arith, omega arith)) (row_by x i v)
+      (All-weaker (NumberedAt i) (NumberedBelow (suc i)) (λ r h. (i, omega arith, h)) (row_by x i v)
       (row_numbered i v))
 
   -- and is as long as the record size
@@ -87,20 +92,24 @@ module _ (x : Extract) where
       All-append Long (rows_below x i) (row_by x i v) (rows_long i (omega arith)) (row_long i v l refl)
 
   -- where no number is too large, the rows rise
-  row_rises : (at i : ℕ) (v : Verdict) → late_in at (row_by x i v) ≡ None → Rising (x.first.0 + i) (row_by x i v)
+  row_rises : (at i : ℕ) (v : Verdict) → late_in at (row_by x i v) ≡ None → Rising (number_at x i).0 (row_by x i v)
   row_rises at i left_out e = tt
   row_rises at i (refused c) e = tt
   row_rises at i (sound b) e = (omega arith, row_fits at _ [] e, tt)
 
-  pub rows_rise : (at n : ℕ) → late_in at (rows_below x n) ≡ None → Rising 0 (rows_below x n)
+  below : (i : ℕ) → i < record_count x → (r : Held) → NumberedBelow i r → r.number.0 < (number_at x i).0
+  below i l r h = omega (arith, h.2, numbers_rise x h.0 i h.1 l)
+
+  pub rows_rise : (at n : ℕ) → n ≤ record_count x → late_in at (rows_below x n) ≡ None → Rising 0 (rows_below x n)
   unfolding rows_below
-  rows_rise at zero e = tt
-  rows_rise at (suc i) e =
+  rows_rise at zero l e = tt
+  rows_rise at (suc i) l e =
       let v = verdict_at x i in
       let f = none_late at (rows_below x i) (row_by x i v) e in
-      rising_append 0 (x.first.0 + i) (rows_below x i) (row_by x i v)
-      (rows_rise at i f.0)
-      (All-weaker (NumberedBelow i) (λ r. r.number.0 < x.first.0 + i) (λ r h. h.1) (rows_below x i) (rows_numbered i))
+      rising_append 0 (number_at x i).0 (rows_below x i) (row_by x i v)
+      (rows_rise at i (omega arith) f.0)
+      (All-weaker (NumberedBelow i) (λ r. r.number.0 < (number_at x i).0) (below i l) (rows_below x i)
+      (rows_numbered i))
       (omega arith)
       (row_rises (at + row_size * length (rows_below x i)) i v f.1)
 
@@ -137,11 +146,11 @@ reported x m r e =
     let q : a.first ≡ r = the-given b.next in
     answered x r (a.gave ∙ ap gives q)
 
-pub fit : (x : Extract) (r : Extracted) → Reported x r → Fit x.size (length (rows_of x)) (rows_of x)
+pub fit : (x : Extract) (r : Extracted) → Reported x r → Fit x.size (base_in x.base (rows_of x)) (rows_of x)
 fit x r s = record {
   good = good_sized x.size x.bytes.now x.checked;
   long = rows_long x (record_count x) (omega arith);
   few = s.few;
-  rising = rows_rise x header_size (record_count x) s.late;
-  based = omega arith;
+  rising = rows_rise x header_size (record_count x) (omega arith) s.late;
+  based = base_few x.base (rows_of x);
 }

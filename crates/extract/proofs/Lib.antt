@@ -6,10 +6,12 @@ pub mod Fixups
 pub mod Protected
 pub mod Judges
 pub mod Rows
+pub mod Risen
 pub mod Tallies
 pub mod Lengths
 pub mod Fits
 pub mod Finds
+pub mod Bases
 pub mod Counts
 pub mod Fills
 pub mod Calls

@@ -32,7 +32,7 @@ late_append at (r ∷ rs) ys =
     ap (λ (o : Option ℕ). pick (ltb r.number.0 number_end) o (Some at)) i
     ∙ choice (ltb r.number.0 number_end) (late_in (at + row_size) rs) (late_in (at + row_size * length (r ∷ rs)) ys) at
 
-both : (o p : Option ℕ) → option_or o p ≡ None → (o ≡ None) × (p ≡ None)
+pub both : (o p : Option ℕ) → option_or o p ≡ None → (o ≡ None) × (p ≡ None)
 both None p e = (refl, e)
 both (Some a) p e = cc
 
@@ -48,7 +48,7 @@ row_fits at r rs e = grind (arith, nat_tests)
 module _ (x : Extract) where
   -- where no row is late, the number of each record that is written is small enough
   pub number_fits : (at n p : ℕ) (b : List ℕ) → p < n → verdict_at x p ≡ sound b → late_in at (rows_below x n) ≡ None
-      → (number_at x p).0 < 0x1000000000000
+      → (number_at x p).0 < number_end
   unfolding rows_below
   number_fits at zero p b l v e = absurd (omega arith)
   number_fits at (suc m) p b l v e =
@@ -59,8 +59,7 @@ module _ (x : Extract) where
       let at' = at + row_size * length (rows_below x m) in
       let g : late_in at' (row_by x m (sound b)) ≡ None =
       subst (λ (u : Verdict). late_in at' (row_by x m u) ≡ None) w f.1 in
-      let h = row_fits at' _ [] g in
-      omega arith)
+      subst (λ (k : ℕ). (number_at x k).0 < number_end) (sym q) (row_fits at' _ [] g))
       (λ k. number_fits at m p b k v f.0)
       (eq-or-lt_of_le (le_of_suc-le-suc l))
 

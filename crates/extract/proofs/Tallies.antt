@@ -1,18 +1,20 @@
 -- What is counted over the records in front of a position, and over one more.
 use Rattle.std.proofs.Common.{ℕ, zero, suc, ◌+◌, ◌*◌, ◌≤◌, ◌≡◌, List, [], ◌++◌, length, arith, refl, sym, ap, ◌∙◌}
-use Rattle.std.proofs.Common.{append-nil, length-append, add-one}
+use Rattle.std.proofs.Common.{true, false, min, subst, append-nil, length-append, add-one}
 use Rattle.std.specs.Prelude.{Option, Some, None}
 use Rattle.std.specs.Option.{option_or}
 use Rattle.fields.specs.declared.Cause.{Cause}
 use Rattle.table.specs.Layout.{header_size, row_size}
 use Rattle.extract.specs.Fixup.{Verdict, left_out, refused, sound}
-use Rattle.extract.specs.Records.{verdict_at, row_by, left_by, refused_by, told_by, rows_below, left_below}
-use Rattle.extract.specs.Records.{refused_below, first_refused_below}
+use Rattle.extract.specs.Records.{record_count, verdict_at, row_by, left_by, refused_by, told_by, rows_below}
+use Rattle.extract.specs.Records.{left_below, refused_below, first_refused_below, rows_of}
 use Rattle.extract.specs.Extracted.{late_in}
-use Rattle.extract.specs.Told.{late_by, tally_below}
+use Rattle.extract.specs.Base.{base_in}
+use Rattle.extract.specs.Told.{late_by, is_base_at, tally_below}
 use Rattle.extract.specs.declared.Extract.{Extract}
 use Rattle.extract.specs.declared.tally.Tally.{Tally}
 use Rattle.extract.proofs.Rows.{late_append}
+use Rattle.extract.proofs.Bases.{base_few, base_stays, base_goes}
 
 -- no more is counted than there are records
 pub record Few (x : Extract) (i : ℕ) : Type 0 where
@@ -54,6 +56,7 @@ counted x i v = record {
   refused = refused_below x i + refused_by v;
   first_refused = option_or (first_refused_below x i) (told_by x i v);
   late = late_in header_size (rows_below x i ++ row_by x i v);
+  base = base_in x.base (rows_below x i ++ row_by x i v);
 }
 
 one_more : (x : Extract) (i : ℕ) (v : Verdict) → v ≡ verdict_at x i → counted x i v ≡ tally_below x (i + 1)
@@ -98,17 +101,20 @@ late_one : (x : Extract) (i : ℕ) (b : List ℕ) (at : ℕ) → late_in at (row
 unfolding late_in
 late_one x i b at = refl
 
--- behind one that is written
-pub sound_more : (x : Extract) (i : ℕ) (b : List ℕ) (t : Tally) → sound b ≡ verdict_at x i → t ≡ tally_below x i
+-- behind one that is written, by what is the base row then
+pub sound_more : (x : Extract) (i : ℕ) (b : List ℕ) (t : Tally) (base : ℕ) → sound b ≡ verdict_at x i
+    → t ≡ tally_below x i → base ≡ base_in x.base (rows_below x i ++ row_by x i (sound b))
     → record t {
       written = t.written + 1;
       late = option_or t.late (late_by x i (header_size + row_size * t.written));
+      base = base;
     } ≡ tally_below x (i + 1)
-sound_more x i b t v e =
+sound_more x i b t base v e g =
     let f : Tally → Tally =
     λ u. record u {
       written = u.written + 1;
       late = option_or u.late (late_by x i (header_size + row_size * u.written));
+      base = base;
     } in
     let rs = rows_below x i in let at = header_size + row_size * length rs in
     let k : length rs + 1 ≡ length (rs ++ row_by x i (sound b)) =
@@ -119,3 +125,30 @@ sound_more x i b t v e =
     let o = or_none (first_refused_below x i) in
     let m : f (tally_below x i) ≡ counted x i (sound b) = cc in
     ap f e ∙ m ∙ one_more x i (sound b) v
+
+-- the base row then
+pub base_written : (x : Extract) (i : ℕ) (t : Tally) → t ≡ tally_below x i → t.base ≤ t.written
+base_written x i t e =
+    subst (λ (u : Tally). u.base ≤ u.written) (sym e) (base_few x.base (rows_below x i))
+
+pub base_kept : (x : Extract) (i : ℕ) (b : List ℕ) (t : Tally) → t ≡ tally_below x i
+    → (t.base ≡ t.written → is_base_at x i ≡ true) → t.base ≡ base_in x.base (rows_below x i ++ row_by x i (sound b))
+base_kept x i b t e h =
+    subst (λ (u : Tally). (u.base ≡ u.written → is_base_at x i ≡ true)
+    → u.base ≡ base_in x.base (rows_below x i ++ row_by x i (sound b)))
+    (sym e) (λ g. sym (base_stays x.base (rows_below x i) _ g)) h
+
+pub base_on : (x : Extract) (i : ℕ) (b : List ℕ) (t : Tally) → t ≡ tally_below x i → t.base ≡ t.written
+    → is_base_at x i ≡ false → t.base + 1 ≡ base_in x.base (rows_below x i ++ row_by x i (sound b))
+base_on x i b t e h =
+    subst (λ (u : Tally). u.base ≡ u.written → is_base_at x i ≡ false
+    → u.base + 1 ≡ base_in x.base (rows_below x i ++ row_by x i (sound b)))
+    (sym e) (λ g k. sym (base_goes x.base (rows_below x i) _ g k)) h
+
+-- the base row of a table of as many rows as were counted
+pub base_asked : (x : Extract) (t : Tally) (k base : ℕ) → t ≡ tally_below x (record_count x) → k ≡ t.written
+    → base ≡ min t.base k → base ≡ base_in x.base (rows_of x)
+base_asked x t k base e w b =
+    let l = base_written x (record_count x) t e in
+    let m : base ≡ t.base = omega arith in
+    m ∙ ap (λ (u : Tally). u.base) e

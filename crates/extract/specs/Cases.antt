@@ -1,16 +1,21 @@
 -- RULES 20: both sides of each limit of an extract.
-use Rattle.std.specs.Prelude.{ℕ, ◌+◌, ◌*◌, ◌^◌, ◌≡◌, Bool, true, false, Option, Some, None}
+use Rattle.std.specs.Prelude.{ℕ, ◌*◌, ◌^◌, ◌≡◌, true, false, Some, None}
 use Rattle.std.specs.Prelude.{List, [], ◌∷◌, ◌++◌, map, replicate}
+use Rattle.fields.specs.Answer.{Outcome, gives, refuses as refused_with, refusal}
 use Rattle.fields.specs.LeBytes.{le_bytes}
+use Rattle.fields.specs.declared.RecordNumber.{RecordNumber}
 use Rattle.fields.specs.declared.Cause.{Cause}
-use Rattle.fields.specs.declared.Cause.TheVariants.{FixupArray, FixupPair}
+use Rattle.fields.specs.declared.Cause.TheVariants.{RecordLength, FixupArray, FixupPair}
 use Rattle.record.specs.Open.{FILE}
 use Rattle.table.specs.Layout.{header_size}
+use Rattle.table.specs.Check.{malformed}
 use Rattle.table.specs.Held.{Held}
 use Rattle.written.specs.Over.{over}
-use Rattle.extract.specs.Size.{good_size, whole_records}
+use Rattle.extract.specs.Numbers.{numbers_risen}
+use Rattle.extract.specs.Size.{good_size, whole_records, one_number_each, chosen_checked}
 use Rattle.extract.specs.Fixup.{good_array, Verdict, left_out, refused, sound, verdict_of}
 use Rattle.extract.specs.Protect.{protected}
+use Rattle.extract.specs.Base.{row_of}
 use Rattle.extract.specs.Extracted.{late_in}
 
 -- record sizes
@@ -40,6 +45,65 @@ NumberLimits =
     ∷ []
     )
     ≡ None ∷ None ∷ Some 20 ∷ Some 20 ∷ Some 32 ∷ []
+
+-- numbers that are lent: none, one, two that are equal, that fall and rise by one, the last two of three equal, the
+-- largest number twice
+abbrev pub numbered_by : List ℕ → List RecordNumber
+numbered_by ns = map (λ n. record { 0 = n }) ns
+
+abbrev pub accepted : Outcome Unit
+accepted = gives tt
+
+abbrev pub RiseLimits : Type 0
+RiseLimits =
+    map (λ ns. numbers_risen (numbered_by ns)) (
+    []
+    ∷ (5 ∷ [])
+    ∷ (5 ∷ 5 ∷ [])
+    ∷ (5 ∷ 4 ∷ [])
+    ∷ (5 ∷ 6 ∷ [])
+    ∷ (5 ∷ 6 ∷ 6 ∷ [])
+    ∷ (18446744073709551615 ∷ 18446744073709551615 ∷ [])
+    ∷ []
+    )
+    ≡ accepted
+    ∷ accepted
+    ∷ refused_with (malformed 32)
+    ∷ refused_with (malformed 32)
+    ∷ accepted
+    ∷ refused_with (malformed 44)
+    ∷ refused_with (malformed 32)
+    ∷ []
+
+-- 0, 1 and 2 records of 512 bytes, each with 0, 1 and 2 numbers
+abbrev pub wrong_length : Outcome Unit
+wrong_length = refused_with (refusal RecordLength (record { 0 = 0 }) 0)
+
+abbrev pub OneEachLimits : Type 0
+OneEachLimits =
+    map (λ k. map (λ ns. one_number_each 512 (replicate (512 * k) 0) (numbered_by ns)) (
+    [] ∷ (5 ∷ []) ∷ (5 ∷ 6 ∷ []) ∷ []
+    )) (0 ∷ 1 ∷ 2 ∷ [])
+    ≡ (accepted ∷ wrong_length ∷ wrong_length ∷ [])
+    ∷ (wrong_length ∷ accepted ∷ wrong_length ∷ [])
+    ∷ (wrong_length ∷ wrong_length ∷ accepted ∷ [])
+    ∷ []
+
+-- two records with numbers that fall: of a wrong size, with one number too many, and else
+abbrev pub FirstLimits : Type 0
+FirstLimits =
+    chosen_checked 513 (replicate 1026 0) (numbered_by (5 ∷ 4 ∷ []))
+    ∷ chosen_checked 512 (replicate 1024 0) (numbered_by (5 ∷ 4 ∷ 3 ∷ []))
+    ∷ chosen_checked 512 (replicate 1024 0) (numbered_by (5 ∷ 4 ∷ []))
+    ∷ []
+    ≡ wrong_length ∷ wrong_length ∷ refused_with (malformed 32) ∷ []
+
+-- the base row among rows 3, 5 and 7: before the first, the first, between two, the last, behind it; and among none
+abbrev pub BaseLimits : Type 0
+BaseLimits =
+    map (λ n. row_of (record { 0 = n }) (rows_with (3 ∷ 5 ∷ 7 ∷ []))) (2 ∷ 3 ∷ 4 ∷ 7 ∷ 8 ∷ [])
+    ++ (row_of (record { 0 = 3 }) [] ∷ [])
+    ≡ 3 ∷ 0 ∷ 3 ∷ 2 ∷ 3 ∷ 0 ∷ []
 
 -- a record of 1,024 bytes that names an array of so many numbers at a place
 abbrev pub naming : ℕ → ℕ → List ℕ

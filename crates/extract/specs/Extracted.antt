@@ -6,9 +6,10 @@ use Rattle.fields.specs.declared.Cause.TheVariants.{RowNumber}
 use Rattle.table.specs.Layout.{header_size, row_size}
 use Rattle.table.specs.Check.{number_end, most_rows}
 use Rattle.table.specs.Held.{Held}
-use Rattle.written.specs.Layout.{table_length}
+use Rattle.written.specs.Layout.{table_length, written}
 use Rattle.written.specs.Refused.{rows_checked, room_checked}
 use Rattle.extract.specs.Records.{record_count, rows_of, left_below, refused_below, first_refused_below}
+use Rattle.extract.specs.Base.{base_in}
 use Rattle.extract.specs.declared.Extract.{Extract}
 use Rattle.extract.specs.declared.tally.Extracted.{Extracted}
 
@@ -24,6 +25,10 @@ refused_late (Some place) = refuses (refusal RowNumber (record { 0 = 0 }) place)
 
 unfoldable pub numbers_checked : List Held → Outcome Unit
 numbers_checked rows = refused_late (late_in header_size rows)
+
+-- the table of an extract
+abbrev pub table_of_extract : Extract → List ℕ
+table_of_extract x = written x.size (base_in x.base (rows_of x)) (rows_of x)
 
 -- how many bytes were written, how many rows, and how many records were not
 abbrev pub report_of : Extract → Extracted

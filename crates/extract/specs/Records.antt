@@ -5,6 +5,7 @@ use Rattle.std.specs.Option.{option_or}
 use Rattle.fields.specs.Pick.{pick}
 use Rattle.fields.specs.declared.RecordNumber.{RecordNumber}
 use Rattle.table.specs.Held.{Held}
+use Rattle.extract.specs.Numbers.{numbered}
 use Rattle.extract.specs.Fixup.{Verdict, left_out, refused, sound, verdict_of}
 use Rattle.extract.specs.declared.Extract.{Extract}
 use Rattle.extract.specs.declared.tally.RefusedRecord.{RefusedRecord}
@@ -33,7 +34,7 @@ module _ (x : Extract) where
   verdict_at i = verdict_of (record_at i)
 
   abbrev pub number_at : ℕ → RecordNumber
-  number_at i = record { 0 = x.first.0 + i }
+  number_at i = numbered x.numbers i
 
   -- the row that it makes, where it is written
   abbrev pub row_by : ℕ → Verdict → List Held

@@ -2,7 +2,8 @@
 //! same for the whole record, and an array in the record keeps what belongs there.
 ghost use Rattle.std.specs.Prelude.{◌≡◌, ◌+◌, ◌*◌, ◌/◌, ◌^◌, ◌≤◌, ◌<◌, true, length, take, drop};
 ghost use Rattle.extract.specs.Fixup.{array_at, pair_at, kept_at, good_array, pairs_agree, fixed_up, verdict_of};
-ghost use Rattle.extract.specs.Told.{IsSized, told_verdict};
+ghost use Rattle.extract.specs.Judge.{told_verdict};
+ghost use Rattle.extract.specs.Told.{IsSized};
 
 use fields::Cause;
 use fields::bytes::u16_at;
@@ -15,8 +16,8 @@ pub const SECTOR_SIZE: usize = 512;
 const PAIR_SIZE: usize = 2;
 
 /// What becomes of a raw record.
-#[derive(Clone, Copy)]
-pub(crate) enum Judged {
+#[derive(Clone, Copy, Debug, PartialEq, Eq)]
+pub enum Judged {
     /// It does not begin with FILE.
     LeftOut,
     /// 29 or 30.

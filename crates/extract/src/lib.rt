@@ -4,13 +4,19 @@
 
 mod fixup;
 pub mod laws;
+mod numbers;
 mod tally;
 
-ghost use Rattle.std.specs.Prelude.{◌≡◌, true, length};
-ghost use Rattle.extract.specs.Size.{good_size, whole_records};
+ghost use Rattle.std.specs.Prelude.{◌≡◌, ◌/◌, true, length, IfOk};
+ghost use Rattle.fields.specs.Told.{told_as};
+ghost use Rattle.extract.specs.Numbers.{suits};
+ghost use Rattle.extract.specs.Size.{good_size, whole_records, sizes_checked};
 
 use fields::{Cause, RecordNumber, Refusal};
-use fixup::{Judged, SECTOR_SIZE, fix_up, judge};
+pub use fixup::Judged;
+use fixup::{SECTOR_SIZE, fix_up, judge};
+pub use numbers::Numbers;
+use numbers::{check_risen, listed};
 use table::{HEADER_SIZE, MOST_ROWS, NUMBER_END, ROW_SIZE};
 use tally::Tally;
 pub use tally::{Extracted, RefusedRecord};
@@ -18,14 +24,17 @@ use written::Shape;
 
 const MOST_SIZE: usize = 4096;
 
-/// An extract of a raw $MFT whose sizes passed their check (RULES 23.2): records of one size, the first of which has a
-/// stated number, and each next one a number that is higher by 1.
+/// An extract of a raw $MFT that passed its check (RULES 23.2, 23.9): records of one size, each with a number, which
+/// rise from record to record.
 #[derive(Clone, Copy)]
 pub struct Extract<'a> {
     pub bytes: &'a [u8],
     pub size: u16,
-    pub first: RecordNumber,
+    pub numbers: Numbers<'a>,
+    /// The record that the table is to have for its base record (RULES 23.10).
+    pub base: Option<RecordNumber>,
     pub ghost checked: { whole_records size bytes.now ≡ true },
+    pub ghost numbered: { suits numbers (length bytes.now / size) ≡ true },
 }
 
 // Whether an extract may have records of so many bytes.
@@ -36,32 +45,91 @@ fn good_size(size: usize) -> bool
     SECTOR_SIZE <= size && size <= MOST_SIZE && size % SECTOR_SIZE == 0
 }
 
+// 1 where the record size is not 512 to 4,096 bytes in whole 512s, or the last record is broken; else that size.
+#[tactic(auto, unfolding(crate::specs::Size::sizes_checked, crate::specs::Size::whole_records))]
+fn check_sizes(bytes: &[u8], size: usize) -> Result<u16, Refusal>
+    ensures answer { told_as (λ _. tt) result ≡ sizes_checked size bytes.now }
+    ensures size { IfOk result (λ n. n ≡ size) }
+    ensures whole { IfOk result (λ n. whole_records n bytes.now ≡ true) }
+{
+    if !good_size(size) || bytes.len() % size != 0 {
+        return Cause::RecordLength.refuses(RecordNumber(0), 0);
+    }
+    Ok(size as u16)
+}
+
 impl<'a> Extract<'a> {
-    ghost use Rattle.std.specs.Prelude.{◌≡◌, ◌+◌, ◌*◌, ◌<◌, ◌≤◌, ◌++◌, None, true, length, drop, IfOk, OnErr};
+    ghost use Rattle.std.specs.Prelude.{◌≡◌, ◌+◌, ◌*◌, ◌<◌, ◌≤◌, ◌++◌, Some, None, true, length, drop};
+    ghost use Rattle.std.specs.Prelude.{IfOk, OnErr, option_map, eqb};
     ghost use Rattle.fields.specs.Told.{told, told_as};
     ghost use Rattle.table.specs.Check.{number_end};
-    ghost use Rattle.written.specs.Layout.{records_from, table_length, row_bytes, written};
+    ghost use Rattle.written.specs.Layout.{records_from, table_length, row_bytes};
     ghost use Rattle.written.specs.Over.{over};
     ghost use Rattle.extract.specs.Fixup.{good_array, fixed_up};
-    ghost use Rattle.extract.specs.Size.{good_size, sizes_checked};
+    ghost use Rattle.extract.specs.Size.{good_size, sizes_checked, chosen_checked};
     ghost use Rattle.extract.specs.Records.{record_count, record_at, number_at, told_number, rows_of};
-    ghost use Rattle.extract.specs.Extracted.{late_in, extract_of, room_of};
+    ghost use Rattle.extract.specs.Base.{base_in};
+    ghost use Rattle.extract.specs.Extracted.{late_in, table_of_extract, extract_of, room_of};
+    ghost use Rattle.extract.specs.declared.numbers.Numbers.TheVariants.{From, Listed};
     ghost use Rattle.table.specs.Layout.{header_size, row_size};
-    ghost use Rattle.extract.specs.Told.{IsSized, tally_below, late_by};
+    ghost use Rattle.extract.specs.Judge.{told_verdict, judged_at};
+    ghost use Rattle.extract.specs.Told.{IsSized, tally_below, late_by, is_base_at};
 
-    /// The check of an extract's sizes: 1 where the record size is not 512 to 4,096 bytes in whole 512s, or the last
-    /// record is broken. It is the only way to an extract.
-    #[tactic(auto, unfolding(crate::specs::Size::sizes_checked, crate::specs::Size::whole_records))]
+    /// Records whose numbers follow one another, from a first one on: 1 where the record size is not 512 to 4,096 bytes
+    /// in whole 512s, or the last record is broken. No extract is made without this check or that of `chosen`.
     pub fn check(bytes: &'a [u8], size: usize, first: RecordNumber) -> Result<Extract<'a>, Refusal>
         ensures answer { told_as (λ _. tt) result ≡ sizes_checked size bytes.now }
         ensures bytes { IfOk result (λ x. x.bytes.now ≡ bytes.now) }
-        ensures numbers { IfOk result (λ x. (x.size ≡ size) × (x.first ≡ first)) }
+        ensures numbers { IfOk result (λ x. (x.size ≡ size) × (x.numbers ≡ From first) × (x.base ≡ None)) }
     {
-        if !good_size(size) || bytes.len() % size != 0 {
+        let size = check_sizes(bytes, size)?;
+        Ok(Extract {
+            bytes,
+            size,
+            numbers: Numbers::From(first),
+            base: None,
+        })
+    }
+
+    /// Records with a number each, lent beside them: 1 as of `check`, and where there is not one number for each
+    /// record; then 21 where the numbers do not rise (RULES 23.9).
+    #[tactic(auto, unfolding(crate::specs::Size::chosen_checked, crate::specs::Size::one_number_each))]
+    pub fn chosen(
+        bytes: &'a [u8],
+        size: usize,
+        numbers: &'a [RecordNumber],
+    ) -> Result<Extract<'a>, Refusal>
+        ensures answer { told_as (λ _. tt) result ≡ chosen_checked size bytes.now numbers.now }
+        ensures bytes { IfOk result (λ x. x.bytes.now ≡ bytes.now) }
+        ensures numbers { IfOk result (λ x. (x.size ≡ size) × (x.numbers ≡ Listed numbers.entry) × (x.base ≡ None)) }
+    {
+        let size = check_sizes(bytes, size)?;
+        if bytes.len() / usize::from(size) != numbers.len() {
             return Cause::RecordLength.refuses(RecordNumber(0), 0);
         }
-        let size = size as u16;
-        Ok(Extract { bytes, size, first })
+        check_risen(numbers)?;
+        Ok(Extract {
+            bytes,
+            size,
+            numbers: Numbers::Listed(numbers),
+            base: None,
+        })
+    }
+
+    /// The same extract, whose table is to have the record with this number for its base record; where that is not
+    /// written, the table has no base row (RULES 23.10).
+    pub fn with_base(self, number: RecordNumber) -> Extract<'a>
+        ensures bytes { result.bytes.now ≡ self.entry.bytes.now }
+        ensures size { result.size ≡ self.entry.size }
+        ensures numbers { result.numbers ≡ self.entry.numbers }
+        ensures base { result.base ≡ Some number }
+    {
+        Extract {
+            bytes: self.bytes,
+            size: self.size,
+            numbers: self.numbers,
+            base: Some(number),
+        }
     }
 
     fn count(&self) -> usize
@@ -80,11 +148,56 @@ impl<'a> Extract<'a> {
         &self.bytes[size * i..size * i + size]
     }
 
+    /// What becomes of the record at a position, by 29 and 30 (RULES 23.3 to 23.5); nothing past the last one.
+    pub fn judged(&self, position: usize) -> Option<Judged>
+        ensures { option_map (told_verdict (record_at self.now position)) result ≡ judged_at self.now position }
+    {
+        if self.count() <= position {
+            return None;
+        }
+        Some(judge(self.record(position)))
+    }
+
     // The number of the record at a position, if it has one: sums of 2^64 and more are none.
     fn number(&self, i: usize) -> Option<RecordNumber>
+        requires { i < record_count self.now }
         ensures { result ≡ told_number self.now i }
     {
-        Some(RecordNumber(self.first.0.checked_add(i as u64)?))
+        match self.numbers {
+            Numbers::From(first) => Some(RecordNumber(first.0.checked_add(i as u64)?)),
+            Numbers::Listed(numbers) => Some(RecordNumber(listed(numbers, i))),
+        }
+    }
+
+    // The same of a record whose number is small enough.
+    fn small_number(&self, i: usize) -> RecordNumber
+        requires inside { i < record_count self.now }
+        requires number { (number_at self.now i).0 < number_end }
+        ensures { result ≡ number_at self.now i }
+    {
+        match self.numbers {
+            Numbers::From(first) => RecordNumber(first.0 + i as u64),
+            Numbers::Listed(numbers) => numbers[i],
+        }
+    }
+
+    // Whether the record at a position has this number.
+    fn has_number(&self, i: usize, number: RecordNumber) -> bool
+        requires { i < record_count self.now }
+        ensures { result ≡ eqb (number_at self.now i).0 number.0 }
+    {
+        self.number(i) == Some(number)
+    }
+
+    // Whether the record at a position is the one that is asked for as the base record.
+    fn is_base(&self, i: usize) -> bool
+        requires { i < record_count self.now }
+        ensures { result ≡ is_base_at self.now i }
+    {
+        match self.base {
+            Some(base) => self.has_number(i, base),
+            None => false,
+        }
     }
 
     // Where the row of the record at a position would stand, behind so many others, if its number is too large.
@@ -93,10 +206,10 @@ impl<'a> Extract<'a> {
         requires few { rows ≤ i }
         ensures { result ≡ late_by self.now i (header_size + row_size * rows) }
     {
-        if (i as u64) < NUMBER_END.saturating_sub(self.first.0) {
-            return None;
+        match self.number(i) {
+            Some(number) if number.0 < NUMBER_END => None,
+            _ => Some(HEADER_SIZE + ROW_SIZE * rows),
         }
-        Some(HEADER_SIZE + ROW_SIZE * rows)
     }
 
     /// How long a buffer is that is never too short: as for a table of as many rows as there are records, and 4,096 at
@@ -131,7 +244,7 @@ impl<'a> Extract<'a> {
             ≡ over at (fixed_up (record_at self.now i))
             (over (records_from row) (row_bytes (number_at self.now i) at) table.old) }
     {
-        let number = RecordNumber(self.first.0 + i as u64);
+        let number = self.small_number(i);
         let from = shape.row_place(row);
         table[from..from + ROW_SIZE].copy_from_slice(&shape.row(row, number));
         let raw = self.record(i);
@@ -143,9 +256,10 @@ impl<'a> Extract<'a> {
     fn fill(&self, shape: Shape, table: &mut [u8])
         requires size { shape.size ≡ self.now.size }
         requires count { shape.count ≡ length (rows_of self.now) }
+        requires base { shape.base ≡ base_in self.now.base (rows_of self.now) }
         requires numbers { late_in header_size (rows_of self.now) ≡ None }
         requires room { table_length shape.size shape.count ≤ length table.old }
-        ensures { table.new ≡ written shape.size shape.count (rows_of self.now)
+        ensures { table.new ≡ table_of_extract self.now
             ++ drop (table_length shape.size shape.count) table.old }
     {
         table[..HEADER_SIZE].copy_from_slice(&shape.header());
@@ -163,15 +277,14 @@ impl<'a> Extract<'a> {
     #[tactic(auto, using(crate::proofs::Calls::called))]
     pub fn write(&self, table: &mut [u8]) -> Result<Extracted, Refusal>
         ensures answer { told result ≡ extract_of self.now (length table.old) }
-        ensures written { IfOk result (λ r. table.new
-            ≡ written self.now.size r.written (rows_of self.now) ++ drop r.length table.old) }
+        ensures written { IfOk result (λ r. table.new ≡ table_of_extract self.now ++ drop r.length table.old) }
         ensures unchanged { OnErr result (table.new ≡ table.old) }
     {
         let tally = self.tally();
         if let Some(place) = tally.late {
             return Cause::RowNumber.refuses(RecordNumber(0), place);
         }
-        let shape = Shape::of(tally.written, self.size)?;
+        let shape = Shape::of(tally.written, self.size)?.with_base(tally.base);
         shape.check_room(table.len())?;
         self.fill(shape, table);
         Ok(Extracted {

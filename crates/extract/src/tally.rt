@@ -38,13 +38,18 @@ pub(crate) struct Tally {
     pub(crate) first_refused: Option<RefusedRecord>,
     /// Where the first row whose number is too large would stand (44).
     pub(crate) late: Option<usize>,
+    /// Which row is the base row; as many as there are while none is.
+    pub(crate) base: usize,
 }
 
 impl Tally {
-    ghost use Rattle.std.specs.Prelude.{◌≡◌, ◌+◌, ◌<◌};
+    ghost use Rattle.std.specs.Prelude.{◌≡◌, ◌+◌, ◌<◌, ◌++◌, List, ℕ};
     ghost use Rattle.extract.specs.declared.Extract.{Extract};
-    ghost use Rattle.extract.specs.Told.{tally_below, told_verdict};
-    ghost use Rattle.extract.specs.Records.{record_count, record_at, verdict_at};
+    ghost use Rattle.extract.specs.Base.{base_in};
+    ghost use Rattle.extract.specs.Fixup.{sound};
+    ghost use Rattle.extract.specs.Judge.{told_verdict};
+    ghost use Rattle.extract.specs.Told.{tally_below};
+    ghost use Rattle.extract.specs.Records.{record_count, record_at, verdict_at, row_by, rows_below};
 
     /// In front of the first record.
     pub(crate) fn none() -> Tally
@@ -56,6 +61,21 @@ impl Tally {
             refused: 0,
             first_refused: None,
             late: None,
+            base: 0,
+        }
+    }
+
+    // Which row is the base row, with a row of the record at a position behind those that were counted.
+    fn base_with(&self, extract: &Extract, i: usize) -> usize
+        requires inside { i < record_count extract.now }
+        requires before { self.now ≡ tally_below extract.now i }
+        ensures { (b : List ℕ) → result
+            ≡ base_in extract.now.base (rows_below extract.now i ++ row_by extract.now i (sound b)) }
+    {
+        if self.base < self.written || extract.is_base(i) {
+            self.base
+        } else {
+            self.written + 1
         }
     }
 
@@ -78,6 +98,7 @@ impl Tally {
                 self.refused += 1;
             }
             Judged::Sound => {
+                self.base = self.base_with(extract, i);
                 self.late = self.late.or(extract.late_row(i, self.written));
                 self.written += 1;
             }

@@ -1,5 +1,6 @@
 mod Causes
 mod CommandLine
 mod Extracted
+mod Said
 mod Told
 mod Words

@@ -19,6 +19,8 @@ use Rattle.command.specs.declared.reason.Reason.TheVariants.{
   SizeUntold,
   Unmade,
   RecordRefused,
+  Absent,
+  Lost,
   Unreadable,
   OutOfMemory,
 }
@@ -34,6 +36,8 @@ of_reason (Unfit misfit cause) = omega arith
 of_reason SizeUntold = omega arith
 of_reason (Unmade why) = omega arith
 of_reason (RecordRefused first) = omega arith
+of_reason (Absent n why) = omega arith
+of_reason (Lost n of why) = omega arith
 of_reason (Unreadable error) = omega arith
 of_reason OutOfMemory = omega arith
 

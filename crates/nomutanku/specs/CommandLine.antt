@@ -32,6 +32,10 @@ refusal_rule = record (new_rule (codes "number")) {
   required = true;
 }
 
+-- `--mft MFT`
+abbrev pub mft_rule : Rule
+mft_rule = record (new_rule (codes "mft")) { long = Some (codes "mft"); value_names = 1 }
+
 -- `[TABLE]..`, and `[FILE]` or `[MFT]`
 abbrev pub tables_rule : Rule
 tables_rule = record (new_rule (codes "inputs")) {
@@ -50,7 +54,9 @@ table_rule = record (new_rule (codes "table")) { short = Some 111; value_names =
 -- the subcommands
 abbrev pub list_shape : Shape
 list_shape = record (new_shape (codes "list")) {
-  rules = number_rule (codes "base") ∷ json_rule ∷ tables_rule ∷ [];
+  rules =
+      number_rule (codes "base") ∷ mft_rule ∷ number_rule (codes "size") ∷ number_rule (codes "first") ∷ json_rule
+      ∷ tables_rule ∷ [];
 }
 
 abbrev pub rows_shape : Shape

@@ -3,3 +3,4 @@ pub mod CommandLine
 pub mod Wishes
 pub mod Inputs
 pub mod Answers
+pub mod Door

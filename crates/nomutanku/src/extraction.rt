@@ -71,6 +71,8 @@ fn goes_to<F: Seek>(file: &mut F, place: u128) -> bool
 }
 
 /// Extracts what is asked for of an input.
+// apart, so that its buffer takes stack only while it runs
+#[inline(never)]
 fn extract<R: Eprint + Input + Files + Clock + AllocGlobal>(
     rt: &R,
     name: &str,

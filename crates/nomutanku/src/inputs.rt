@@ -46,6 +46,8 @@ pub fn named<'a>(name: &'a str) -> &'a str
 
 /// Tells what is asked of one input, and gives the reason where it is not told to its end. What its bytes are the
 /// system says.
+// apart, so that its buffer takes stack only while it runs
+#[inline(never)]
 #[tactic(auto, using(crate::proofs::Told::unread))]
 fn tell_one<R: Eprint + Input + Files + Clock + AllocGlobal, W: Write>(
     rt: &R,

@@ -7,6 +7,7 @@ ghost use Rattle.clap.specs.Words.{kind_of, subcommand_name_of};
 ghost use Rattle.command.specs.declared.status.Status.TheVariants.{Usage};
 ghost use Rattle.nomutanku.specs.Answers.{Tells, Answers};
 
+mod door;
 mod explain;
 mod extraction;
 mod failed;
@@ -39,6 +40,7 @@ fn obey<R: Print + Eprint + Input + Files + Clock + AllocGlobal>(
 {
     match asked.subcommand() {
         Some(("explain", options)) => explain::obey(rt, options),
+        Some(("list", options)) if door::is_asked(options) => door::obey(rt, options),
         Some(("extract", options)) => {
             let asked = extraction::asked(options);
             let table = options.get_str(TABLE);

@@ -1,7 +1,8 @@
 //! The command line.
 ghost use Rattle.std.specs.Prelude.{IfOk};
 ghost use Rattle.nomutanku.specs.CommandLine.{IsRead, Is, leaf, number_rule, json_rule, tables_rule, file_rule};
-ghost use Rattle.nomutanku.specs.CommandLine.{list_shape, rows_shape, record_shape, table_rule, extract_shape};
+ghost use Rattle.nomutanku.specs.CommandLine.{list_shape, rows_shape, record_shape, mft_rule, table_rule};
+ghost use Rattle.nomutanku.specs.CommandLine.{extract_shape};
 ghost use Rattle.nomutanku.specs.CommandLine.{explain_shape, program_shape, command_line};
 
 use clap::{Arg, ArgAction, Command, value_parser};
@@ -9,6 +10,9 @@ use std::alloc::{AllocError, Global};
 
 /// By this id the inputs that are named are asked for.
 pub const INPUTS: &str = "inputs";
+
+/// By this id the raw $MFT is asked for that records are listed from.
+pub const MFT: &str = "mft";
 
 /// By this id the file that a table goes to is asked for.
 pub const TABLE: &str = "table";
@@ -20,6 +24,10 @@ const STATUSES: &str =
 const PROTECTED: &str =
     "A record as it lies on the disk is protected: the last two bytes of each 512 are replaced by a\n\
     check number. What is wanted here is the record fixed up, which has its own bytes there again.";
+
+const LISTED: &str =
+    "With --mft each word names a record of a raw $MFT of any size, by its number, and only the records\n\
+    are read that its listing takes. --size and --first tell how they stand in it.";
 
 const EXTRACTS: &str =
     "An extract has records as they lie on the disk, one behind another; one at position P, from 0 on,\n\
@@ -34,7 +42,7 @@ const FROM: &str = "Begin with the record at this position; at 0 where it is lef
 
 const COUNT: &str = "Take N records at most; all that follow where it is left out";
 
-const MFT: &str =
+const EXTRACT: &str =
     "An extract of a raw $MFT; - is standard input, as is none where something is piped in";
 
 // `--ID N`, where N goes by a name
@@ -57,6 +65,15 @@ fn json<'a>(alloc: Global) -> Arg<'a>
         .help("Write an object of JSON for each line")
 }
 
+// `--mft MFT`
+fn mft<'a>(alloc: Global) -> Arg<'a>
+    ensures { IsRead mft_rule result }
+{
+    Arg::new(alloc, MFT).long(MFT).value_name("MFT").help(
+        "List records of this raw $MFT, which are named by their numbers in the place of tables",
+    )
+}
+
 fn tables<'a>(alloc: Global) -> Arg<'a>
     ensures { IsRead tables_rule result }
 {
@@ -76,9 +93,15 @@ fn list<'a>(alloc: Global) -> Result<Command<'a>, AllocError>
         "N",
         "List the record with number N, where it is not the base row that is wanted",
     );
+    let size = number(alloc, "size", "N", SIZE);
+    let first = number(alloc, "first", "N", FIRST);
     Command::new(alloc, "list")
         .about("List the attributes of a table's base record, with their parts and cluster runs")
+        .after_help(LISTED)
         .arg(base)?
+        .arg(mft(alloc))?
+        .arg(size)?
+        .arg(first)?
         .arg(json(alloc))?
         .arg(tables(alloc))
 }
@@ -147,7 +170,7 @@ fn extract<'a>(alloc: Global) -> Result<Command<'a>, AllocError>
         .arg(from)?
         .arg(count)?
         .arg(table(alloc))?
-        .arg(file(alloc, "MFT", MFT))
+        .arg(file(alloc, "MFT", EXTRACT))
 }
 
 fn explain<'a>(alloc: Global) -> Result<Command<'a>, AllocError>

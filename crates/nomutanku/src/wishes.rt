@@ -9,7 +9,8 @@ use command::Asked;
 use fields::RecordNumber;
 use report::Form;
 
-fn form(options: &ArgMatches) -> Form
+/// The form in which lines are told.
+pub fn form(options: &ArgMatches) -> Form
     ensures { Forms (value_of options.now (codes "json")) result }
 {
     if options.get_flag("json") {

@@ -49,26 +49,28 @@ row_filled n at a b s x y l ea eb ex ey =
     let fy = filled a b s x y 8 4 la lb fx ey in
     full (a ++ b) s y 12 l fy ∙ ap₂ ◌++◌ pa pb
 
-pub header_filled : (size k : ℕ) (a b c d s u v w x y : List ℕ) → length s ≡ 20
+pub header_filled : (size base k : ℕ) (a b c d e s u v w x y : List ℕ) → length s ≡ 20
     → a ≡ to_le_bytes w32 k → b ≡ to_le_bytes w32 size → c ≡ to_le_bytes w32 header_size
-    → d ≡ to_le_bytes w32 (records_from k)
-    → u ≡ over 0 a s → v ≡ over 4 b u → w ≡ over 8 c v → x ≡ over 12 d w → y ≡ over 16 a x
-    → y ≡ header_bytes size k k
+    → d ≡ to_le_bytes w32 (records_from k) → e ≡ to_le_bytes w32 base
+    → u ≡ over 0 a s → v ≡ over 4 b u → w ≡ over 8 c v → x ≡ over 12 d w → y ≡ over 16 e x
+    → y ≡ header_bytes size base k
 unfolding header_bytes
-header_filled size k a b c d s u v w x y l ea eb ec ed eu ev ew ex ey =
+header_filled size base k a b c d e s u v w x y l ea eb ec ed ee eu ev ew ex ey =
     let pa : a ≡ le_bytes 4 k = ea ∙ four_bytes k in
     let pb : b ≡ le_bytes 4 size = eb ∙ four_bytes size in
     let pc : c ≡ le_bytes 4 header_size = ec ∙ four_bytes header_size in
     let pd : d ≡ le_bytes 4 (records_from k) = ed ∙ four_bytes (records_from k) in
+    let pe : e ≡ le_bytes 4 base = ee ∙ four_bytes base in
     let la : length a ≡ 4 = ap length pa ∙ le_bytes_long 4 k in
     let lb : length b ≡ 4 = ap length pb ∙ le_bytes_long 4 size in
     let lc : length c ≡ 4 = ap length pc ∙ le_bytes_long 4 header_size in
     let ld : length d ≡ 4 = ap length pd ∙ le_bytes_long 4 (records_from k) in
+    let le : length e ≡ 4 = ap length pe ∙ le_bytes_long 4 base in
     let fu = filled [] a s s u 0 4 refl la refl eu in
     let fv = filled a b s u v 4 4 la lb fu ev in
     let fw = filled (a ++ b) c s v w 8 4 (simp length-append (omega arith)) lc fv ew in
     let fx = filled ((a ++ b) ++ c) d s w x 12 4 (simp length-append (omega arith)) ld fw ex in
-    let fy = filled (((a ++ b) ++ c) ++ d) a s x y 16 4 (simp length-append (omega arith)) la fx ey in
-    let f = full ((((a ++ b) ++ c) ++ d) ++ a) s y 20 l fy in
-    let g : (((a ++ b) ++ c) ++ d) ++ a ≡ a ++ (b ++ (c ++ (d ++ a))) = simp append_assoc in
-    f ∙ g ∙ ap₂ ◌++◌ pa (ap₂ ◌++◌ pb (ap₂ ◌++◌ pc (ap₂ ◌++◌ pd pa)))
+    let fy = filled (((a ++ b) ++ c) ++ d) e s x y 16 4 (simp length-append (omega arith)) le fx ey in
+    let f = full ((((a ++ b) ++ c) ++ d) ++ e) s y 20 l fy in
+    let g : (((a ++ b) ++ c) ++ d) ++ e ≡ a ++ (b ++ (c ++ (d ++ e))) = simp append_assoc in
+    f ∙ g ∙ ap₂ ◌++◌ pa (ap₂ ◌++◌ pb (ap₂ ◌++◌ pc (ap₂ ◌++◌ pd pe)))

@@ -100,7 +100,7 @@ module _ (size base : ℕ) (rows : List Held) (rest : List ℕ) (f : Fit size ba
         inside = omega arith;
       }
 
-  header_back : numbers_at t ≡ h
+  pub header_back : numbers_at t ≡ h
   header_back =
       let s = (good_sized size f.good).most in
       let few = f.few in

@@ -1,5 +1,5 @@
 -- RULES 20: both sides of each limit of a table that is written.
-use Rattle.std.specs.Prelude.{ℕ, ◌≡◌, [], ◌∷◌, map}
+use Rattle.std.specs.Prelude.{◌≡◌, [], ◌∷◌, map}
 use Rattle.fields.specs.Answer.{Outcome, gives, refuses, refusal}
 use Rattle.fields.specs.declared.Cause.{Cause}
 use Rattle.fields.specs.declared.Cause.TheVariants.{TooManyRows, OutputShort}

@@ -10,13 +10,16 @@ ghost use Rattle.written.specs.Over.{over};
 use fields::{Cause, RecordNumber, Refusal};
 use table::{HEADER_SIZE, MOST_ROWS, ROW_SIZE};
 
-/// How many rows a table is to have, and how many bytes each of its records: 4,096 rows at most (RULES 22). Rows are
-/// counted by a `u16`, so that no place in such a table is too large for a number.
+/// How many rows a table is to have, how many bytes each of its records, and which row is its base row: 4,096 rows at
+/// most (RULES 22). Rows are counted by a `u16`, so that no place in such a table is too large for a number.
 #[derive(Clone, Copy)]
 pub struct Shape {
     pub count: u16,
     pub size: u16,
+    /// The base row; the count where the table has none (RULES 10).
+    pub base: u16,
     pub ghost few: { count ≤ 4096 },
+    pub ghost based: { base ≤ count },
 }
 
 // Bytes over those that stand at a place.
@@ -28,22 +31,37 @@ fn put(bytes: &mut [u8], at: usize, more: &[u8])
 }
 
 impl Shape {
-    ghost use Rattle.std.specs.Prelude.{◌≡◌, ◌+◌, ◌*◌, ◌<◌, IfOk};
+    ghost use Rattle.std.specs.Prelude.{◌≡◌, ◌+◌, ◌*◌, ◌<◌, min, IfOk};
     ghost use Rattle.fields.specs.Told.{told, told_as};
     ghost use Rattle.written.specs.Layout.{records_from, table_length, header_bytes, row_bytes};
     ghost use Rattle.written.specs.Refused.{rows_checked, room_checked};
 
-    /// The shape of a table of so many rows; 34 where that is more than a table may have.
+    /// The shape of a table of so many rows, without a base row; 34 where that is more than a table may have.
     #[tactic(auto, unfolding(crate::specs::Refused::rows_checked))]
     pub fn of(count: usize, size: u16) -> Result<Shape, Refusal>
         ensures answer { told_as (λ _. tt) result ≡ rows_checked count }
-        ensures shape { IfOk result (λ s. (s.count ≡ count) × (s.size ≡ size)) }
+        ensures shape { IfOk result (λ s. (s.count ≡ count) × (s.size ≡ size) × (s.base ≡ count)) }
     {
         if MOST_ROWS < count {
             return Cause::TooManyRows.refuses(RecordNumber(0), 0);
         }
         let count = count as u16;
-        Ok(Shape { count, size })
+        Ok(Shape {
+            count,
+            size,
+            base: count,
+        })
+    }
+
+    /// The same with row i for its base row; with none where it has no such row.
+    pub fn with_base(self, i: usize) -> Shape
+        ensures { (result.count ≡ self.count) × (result.size ≡ self.size) × (result.base ≡ min i self.count) }
+    {
+        Shape {
+            count: self.count,
+            size: self.size,
+            base: i.min(usize::from(self.count)) as u16,
+        }
     }
 
     /// Where row i of the directory stands, as a place in bytes from the table's start. That of the row behind the last
@@ -80,13 +98,12 @@ impl Shape {
         Ok(())
     }
 
-    /// The header of a table without a base row.
+    /// The header.
     pub fn header(&self) -> [u8; HEADER_SIZE]
-        ensures { result ≡ header_bytes self.now.size self.now.count self.now.count }
+        ensures { result ≡ header_bytes self.now.size self.now.base self.now.count }
     {
-        let count = u32::from(self.count).to_le_bytes();
         let mut header = [0; HEADER_SIZE];
-        put(&mut header, 0, &count);
+        put(&mut header, 0, &u32::from(self.count).to_le_bytes());
         put(&mut header, 4, &u32::from(self.size).to_le_bytes());
         put(&mut header, 8, &(HEADER_SIZE as u32).to_le_bytes());
         put(
@@ -94,7 +111,7 @@ impl Shape {
             12,
             &(self.row_place(self.count) as u32).to_le_bytes(),
         );
-        put(&mut header, 16, &count);
+        put(&mut header, 16, &u32::from(self.base).to_le_bytes());
         header
     }
 

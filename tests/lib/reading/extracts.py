@@ -64,10 +64,17 @@ def records_of(mft, size):
     return [mft[at:at + size] for at in range(0, len(mft), size)]
 
 
-def table_of(rows, size):
-    """The table of some rows, (number, record): the records straight behind the directory, and no base row."""
+def base_row_of(rows, base):
+    """Which row is the base row: that of the record with this number, or as many as there are where it is not written
+    (RULES 23.10)."""
+    return next((k for k, (number, _) in enumerate(rows) if number == base), len(rows))
+
+
+def table_of(rows, size, base=None):
+    """The table of some rows, (number, record): the records straight behind the directory. Its base row is that of a
+    number, and where none is asked for it has none."""
     records = HEADER.size + ROW.size * len(rows)
-    text = HEADER.pack(len(rows), size, HEADER.size, records, len(rows))
+    text = HEADER.pack(len(rows), size, HEADER.size, records, base_row_of(rows, base))
     text += b"".join(ROW.pack(number, records + size * k) for k, (number, _) in enumerate(rows))
     return text + b"".join(record for _, record in rows)
 
@@ -81,22 +88,59 @@ def check_rows(rows):
         raise Refusal(34, 0, 0)
 
 
-def extract(mft, size, first, room):
-    """(the table, the report) for an extract of records of one size, the first of which has this number, and for a
-    buffer of `room` bytes; or the call's refusal is raised."""
+def made(records, numbers, size, base, room):
+    """(the table, the report) for records with a number each, and for a buffer of `room` bytes; or the call's refusal
+    is raised."""
     rows, refused, left_out = [], [], 0
-    for position, raw in enumerate(records_of(mft, size)):
+    for position, (number, raw) in enumerate(zip(numbers, records)):
         if raw[:4] != b"FILE":
             left_out += 1
             continue
         cause, fixed = judged(raw)
         if cause is None:
-            rows.append((first + position, fixed))
+            rows.append((number, fixed))
         else:
-            number = first + position
             refused.append(First(position, number if number < TOLD_END else None, cause))
     check_rows(rows)
-    table = table_of(rows, size)
+    table = table_of(rows, size, base)
     if len(table) > room:
         raise Refusal(35, 0, 0)
     return table, Report(len(table), len(rows), left_out, len(refused), refused[0] if refused else None)
+
+
+def extract(mft, size, first, room, base=None):
+    """The same for an extract of records of one size, the first of which has this number."""
+    records = records_of(mft, size)
+    return made(records, range(first, first + len(records)), size, base, room)
+
+
+# Chosen records: a list of numbers in the place of a first one (RULES 23.9).
+
+def check_numbers(numbers, count):
+    """1 where there are not as many numbers as records; then 21 at the first number that is not above the one before
+    it, where its row would stand if each record were written."""
+    if len(numbers) != count:
+        raise Refusal(1, 0, 0)
+    for k, (before, number) in enumerate(zip(numbers, numbers[1:]), 1):
+        if number <= before:
+            raise Refusal(21, 0, HEADER.size + ROW.size * k)
+
+
+def chosen_records(mft, size, numbers):
+    """The records of an extract that has a number for each."""
+    records = records_of(mft, size)
+    check_numbers(numbers, len(records))
+    return records
+
+
+def chosen(mft, size, numbers, room, base=None):
+    """(the table, the report) for records of one size with these numbers."""
+    return made(chosen_records(mft, size, numbers), numbers, size, base, room)
+
+
+def judgement(records, position):
+    """What becomes of the record at a position: it is left out, it is 29 or 30, or it is sound; None past the last."""
+    if position >= len(records):
+        return None
+    raw = records[position]
+    return "left" if raw[:4] != b"FILE" else judged(raw)[0] or "sound"

@@ -10,7 +10,16 @@ returns-in-Ok c =
     let size = c.in-Ok.ensures.numbers.0 ∙ c.from.ensures in
     ⊎_elim
     (λ skipped. inl skipped)
-    (λ filled. inr (inr (c.in-Ok.extract, (c.in-Ok.ensures.bytes, size, c.in-Ok.ensures.numbers.1), filled)))
+    (λ filled. inr (inr (
+      c.in-Ok.extract,
+      (
+        c.in-Ok.ensures.bytes,
+        size,
+        c.in-Ok.ensures.numbers.1,
+        c.in-Ok.ensures.numbers.2,
+      ),
+      filled,
+    )))
     c.fill_table.ensures
 
 pub returns-in-Err : goal.returns-in-Err

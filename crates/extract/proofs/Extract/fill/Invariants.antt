@@ -6,5 +6,5 @@ use Rattle.extract.proofs.Extract.fill.Given as goal
 abbrev pub invariant-loop-i : goal.invariant-loop-i
 invariant-loop-i l = record {
   row : l.row ≡ length (rows_below l.self l.i);
-  stands : Stands l.shape.size l.shape.count l.shape.count (rows_below l.self l.i) l.fn.table l.table;
+  stands : Stands l.shape.size l.shape.base l.shape.count (rows_below l.self l.i) l.fn.table l.table;
 }

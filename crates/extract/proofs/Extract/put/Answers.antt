@@ -2,9 +2,6 @@ use Rattle.std.proofs.Common.{suc, ◌*◌, ◌≤◌, arith}
 use Rattle.std.proofs.Math.Nat.{mul-le-mul_left}
 use Rattle.extract.proofs.Extract.put.Goals as goal
 
-pub overflow_add-number : goal.overflow_add-number
-overflow_add-number c = omega (arith, c.requires.number)
-
 pub slice_bounds-fix_up-end : goal.slice_bounds-fix_up-end
 slice_bounds-fix_up-end c =
     let size = c.args.shape.size in

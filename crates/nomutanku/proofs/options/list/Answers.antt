@@ -8,7 +8,10 @@ use Rattle.nomutanku.proofs.options.list.Goals as goal
 
 pub returns : goal.returns
 returns c =
-    let new : Is (leaf (new_shape (codes "list"))) c.about.result = search rules in
+    let new : Is (leaf (new_shape (codes "list"))) c.after_help.result = search rules in
     let first = with_arg _ _ c.number-base.result _ _ new c.number-base.ensures c.in_ok-arg.ensures in
-    let second = with_arg _ _ c.json.result _ _ first c.json.ensures c.in_ok-arg-2.ensures in
-    IfOk-weaker c.arg-3.result _ _ (λ new. with_arg _ new c.tables.result _ _ second c.tables.ensures) c.arg-3.ensures
+    let second = with_arg _ _ c.mft.result _ _ first c.mft.ensures c.in_ok-arg-2.ensures in
+    let third = with_arg _ _ c.number-size.result _ _ second c.number-size.ensures c.in_ok-arg-3.ensures in
+    let fourth = with_arg _ _ c.number-first.result _ _ third c.number-first.ensures c.in_ok-arg-4.ensures in
+    let fifth = with_arg _ _ c.json.result _ _ fourth c.json.ensures c.in_ok-arg-5.ensures in
+    IfOk-weaker c.arg-6.result _ _ (λ new. with_arg _ new c.tables.result _ _ fifth c.tables.ensures) c.arg-6.ensures

@@ -45,6 +45,6 @@ returns-in-Refused c =
 pub returns-in-Sound : goal.returns-in-Sound
 returns-in-Sound c =
     let was = c.args.self.now in
-    ap (λ (o : Option ℕ). record was { written = was.written + 1; late = o })
+    ap (λ (o : Option ℕ). record was { written = was.written + 1; late = o; base = c.base_with-self.result })
     (c.or-self-in-Sound.ensures ∙ ap (option_or was.late) c.late_row.ensures)
-    ∙ sound_more _ _ _ _ (rw c.in-Sound.is at c.requires.judged) c.requires.before
+    ∙ sound_more _ _ _ _ _ (rw c.in-Sound.is at c.requires.judged) c.requires.before (c.base_with-self.ensures _)

@@ -1,0 +1,6 @@
+-- What the prover is told.
+pub mod Turns
+pub mod Lies
+pub mod Has
+pub mod Among
+pub mod Cases
