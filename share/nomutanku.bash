@@ -14,7 +14,7 @@ _nomutanku() {
     done
     case $command in
     '') options='list rows record extract explain help --help --version' ;;
-    list) options='--base --mft --size --first --json --help' ;;
+    list) options='--base --mft --size --first --all --find --names --strict --json --help' ;;
     rows) options='--json --help' ;;
     record) options='--number --json --help' ;;
     extract) options='--size --first --from --count -o --help' ;;
@@ -22,8 +22,8 @@ _nomutanku() {
     help) options='list rows record extract explain help' ;;
     esac
     case $before in
-    # a number comes here, and no file
-    --base | --number | --size | --first | --from | --count) compopt +o default 2>/dev/null ;;
+    # a number comes here, or a name, and no file
+    --base | --number | --size | --first | --from | --count | --find) compopt +o default 2>/dev/null ;;
     *) mapfile -t COMPREPLY < <(compgen -W "$options" -- "$word") ;;
     esac
 }

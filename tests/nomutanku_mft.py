@@ -84,9 +84,15 @@ RAWS = raws_of(RECORDS)
 FIRST, (OTHER, LAST) = BASE, REFERRED
 
 
+def extension(path, number, base):
+    """The line that is said of a listing of a record that has another one for its base record."""
+    return "%s: warning: file %d: it is an extension of record %d\n" % (path, number, base)
+
+
 def said_of_stop(path, expected):
     """The line that is said of a listing that stops at a record that is not there."""
-    return "%s: %s\n" % (path, STOPPED) if b"\nstopped 17 " in expected else ""
+    number = int(expected.split(b"\n")[0].removeprefix(b"file "))
+    return "%s: record %d: %s\n" % (path, number, STOPPED) if b"\nstopped 17 " in expected else ""
 
 
 def hold(test, text, first, numbers, status, out, said):
@@ -148,7 +154,7 @@ def test_places(test):
     words = ("list", "--mft", path, "--size", str(SIZED))
     given = {"preexec_fn": little}
     expected = listed({number: RECORDS[OTHER]}, number)
-    test.same(test.run(*words, str(number), **given), 0, expected, "")
+    test.same(test.run(*words, str(number), **given), 0, expected, extension(path, number, BASE))
     said = "%s: record %d: %s\n" % (path, number + 1, LEFT)
     test.same(test.run(*words, str(number + 1), **given), 2, b"", said)
 
@@ -156,7 +162,7 @@ def test_places(test):
 def test_several(test):
     """Records are listed in the order in which they are named, each by itself, also twice."""
     out = listed(RECORDS, BASE) + listed(RECORDS, OTHER) + listed(RECORDS, BASE)
-    hold(test, mft(RAWS), FIRST, [BASE, OTHER, BASE], 0, out, "")
+    hold(test, mft(RAWS), FIRST, [BASE, OTHER, BASE], 0, out, extension("NAME", OTHER, BASE))
 
 
 def test_little_is_read(test):
@@ -220,7 +226,7 @@ def test_named_records_that_are_refused(test):
         out = listed(records, OTHER)
         text = mft({**RAWS, BASE: other}, FIRST)
         hold(test, text, FIRST, [BASE], 2, b"", said)
-        hold(test, text, FIRST, [BASE, OTHER], 2, out, said)
+        hold(test, text, FIRST, [BASE, OTHER], 2, out, said + extension("NAME", OTHER, BASE))
 
 
 def test_large_numbers(test):
@@ -233,7 +239,7 @@ def test_large_numbers(test):
         if said is None:
             test.same((out.split(b"\n")[0],), b"file %d" % first)
         else:
-            test.same((code, out, told), status, b"", "%s: %s\n" % (path, said))
+            test.same((code, out, told), status, b"", "%s: record %d: %s\n" % (path, first, said))
 
 
 # Sizes, and usage.
@@ -282,11 +288,12 @@ def test_usage(test):
     """A command line that is wrong: 64, in words, and nothing is listed."""
     path = test.file("x.mft", mft(RAWS))
     for words, why in (
-        (("--mft", path), "--mft wants the numbers of records"),
+        (("--mft", path), "--mft wants the numbers of records, or --all, or --find"),
         (("--mft", path, "--base", "5", "5"), "--base does not go with --mft: name the records"),
-        (("--size", "1024", path), "--size and --first go with --mft alone"),
-        (("--first", "0", path), "--size and --first go with --mft alone"),
-        (("--mft", path, "5", "x"), "x is no record's number"), (("--mft", path, path), "%s is no record's number" % path),
+        (("--size", "1024", path), "--size, --first, --all, --find, --names and --strict go with --mft alone"),
+        (("--first", "0", path), "--size, --first, --all, --find, --names and --strict go with --mft alone"),
+        (("--mft", path, "5", "x"), "x is no record's number"),
+        (("--mft", path, path), "%s is no record's number" % path),
         (("--mft", path, ""), " is no record's number"), (("--mft", path, "a\nb"), "a\\nb is no record's number"),
         (("--mft", path, str(2 ** 64)), "%d is no record's number" % 2 ** 64),
         (("--mft", path, "1.5"), "1.5 is no record's number")):

@@ -100,7 +100,8 @@ def options_of_each(program):
 
 def of_lines(text):
     """command -> its words, of the lines `nomutanku COMMAND ..`, which a page indents. What follows the words stands
-    behind two spaces."""
+    behind two spaces; where a line is too short for them, they go on below, behind spaces."""
+    text = re.sub(r"\n {8,}(?=\[)", " ", text)
     lines = re.findall(r"^    nomutanku (\w+)((?: [^ \n]+)*)(?:  .*)?$", text, re.MULTILINE)
     return {name: set(re.findall(r"\[[^\]]*\]|[^ \[\]]+", words)) for name, words in lines if name != HELP}
 

@@ -8,6 +8,7 @@ length, and a hole has no start.
 import base64
 import os
 import re
+import struct
 import zlib
 from typing import NamedTuple
 
@@ -15,6 +16,10 @@ from lib.programs import TESTS
 from lib.reading.record import attribute_at, full
 
 KEPT = os.path.join(TESTS, "witness_runs.txt")
+
+# a boot sector: bytes of a sector, sectors of a cluster, and how large a record of the MFT is: clusters, or where it is
+# below 0 the power of two of the bytes
+BOOT = struct.Struct("<11xHB50xb")
 
 # ntfsinfo: the line that begins an attribute, what is read of it, and a row of its runs: VCN, LCN, length
 DUMPED = re.compile(r"^Dumping attribute .* \(0x([0-9a-f]+)\) from mft record (\d+) ", re.MULTILINE)
@@ -89,6 +94,13 @@ class Line(NamedTuple):
     place: int
     count: int
     listed: list
+
+
+def sizes_in(boot):
+    """The bytes of a cluster and of a record, by the sector that a volume begins with."""
+    sector, count, power = BOOT.unpack(boot[:BOOT.size])
+    cluster = sector * count
+    return cluster, 2 ** -power if power < 0 else power * cluster
 
 
 # What they print.

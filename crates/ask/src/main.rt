@@ -4,9 +4,11 @@
 
 mod in_extract;
 mod in_listing;
+mod in_names;
 mod in_record;
 mod in_references;
 mod in_runs;
+mod in_segments;
 mod in_table;
 mod in_walk;
 mod numbers;
@@ -15,6 +17,7 @@ mod tell;
 
 use fields::RecordNumber;
 use question::Question;
+use std::alloc::Global;
 use std::io;
 use std::io::{BufReader, BufWriter, Read, Write};
 use tell::{line, view};
@@ -43,7 +46,8 @@ fn answer_on_record<W: Write>(out: &mut W, q: &Question<'_>) -> io::Result<()> {
     }
 }
 
-// Those on entries, tables, walks, listings, cluster runs and references. A kind that there is not has no answer.
+// Those on entries, tables, walks, listings, cluster runs, references and names. A kind that there is not has no
+// answer.
 fn answer_on_file<W: Write>(out: &mut W, q: &Question<'_>) -> io::Result<()> {
     match q.kind {
         16 => line(out, &in_table::entry(q)),
@@ -65,15 +69,24 @@ fn answer_on_file<W: Write>(out: &mut W, q: &Question<'_>) -> io::Result<()> {
         32 => line(out, &in_runs::step(q)),
         33 => in_runs::all(out, q),
         36 => in_references::of(out, q),
+        38 => in_names::of(out, q),
+        39 => in_names::value(out, q),
         _ => Ok(()),
     }
 }
 
-// The questions on extracts, whose calls want a room to write to; or one of the others.
-fn answer<W: Write>(out: &mut W, q: &Question<'_>, room: &mut [u8]) -> io::Result<()> {
+// The questions on extracts, whose calls want a room to write to, and on hazards, which are allocated; or one of the
+// others.
+fn answer<W: Write>(
+    out: &mut W,
+    q: &Question<'_>,
+    room: &mut [u8],
+    alloc: Global,
+) -> io::Result<()> {
     match q.kind {
         34 => in_extract::write(out, q, room),
         35 => in_extract::write_chosen(out, q, room),
+        37 => in_segments::hazards(out, q, alloc),
         _ => answer_on_record(out, q),
     }
 }
@@ -85,11 +98,12 @@ fn answer_each<R: Read, W: Write>(
     space: &mut [u8],
     listed: &mut [RecordNumber],
     room: &mut [u8],
+    alloc: Global,
     out: &mut W,
 ) -> io::Result<()> {
     // as many as come: a loop without a bound would have to be shown to end
     for _ in 0..u64::MAX {
-        answer(out, &question::read(input, space, listed)?, room)?;
+        answer(out, &question::read(input, space, listed)?, room, alloc)?;
     }
     Ok(())
 }
@@ -100,7 +114,15 @@ fn answer_all<R: Input + Print + AllocGlobal>(rt: &R) -> io::Result<()> {
     let mut space = question::room(rt.alloc())?;
     let mut listed = question::listed_room(rt.alloc())?;
     let mut room = question::room(rt.alloc())?;
-    let _ = answer_each(&mut input, &mut space, &mut listed, &mut room, &mut out);
+    let alloc = rt.alloc();
+    let _ = answer_each(
+        &mut input,
+        &mut space,
+        &mut listed,
+        &mut room,
+        alloc,
+        &mut out,
+    );
     out.flush()
 }
 

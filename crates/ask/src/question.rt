@@ -68,14 +68,14 @@ const ROOM: usize = 4_300_000;
 /// How many numbers may be listed: one for each of the smallest records that there is room for, and a few more.
 const MOST_LISTED: usize = 8_400;
 
-/// A question, for every call that there is: each reads what it needs. A state has the place as its raw place,
-/// the list and the key; `ty` stands beside a key, since other calls ask for it too, and `instance` is theirs alone.
-/// `most` is how many calls a walk makes, or the room for parts; `buffer` the room for a listing's text. `last` and
-/// `sum` go from one run to the next, and `run_bytes` is how many bytes of a record hold runs. The record is, for an
-/// entry, the rest of a list, and for one run the run bytes; for an extract it is the extract, of records of `size`
-/// bytes, and the table is what its buffer holds; `listed` are the numbers of its records where these are chosen, and
-/// `base` is the record that its table is to have for its base record. The kind is the byte that came: `main` has the
-/// kinds.
+/// A question, for every call that there is: each reads what it needs. A state has the place as its raw place, the list
+/// and the key; `ty` stands beside a key, since other calls ask for it too, and `instance` is theirs alone. `most` is
+/// how many calls a walk makes, the room for parts, or how many bytes of a key's name are sought; `buffer` the room for
+/// a listing's text. `last` and `sum` go from one run to the next, and `run_bytes` is how many bytes of a record hold
+/// runs. The record is, for an entry, the rest of a list, and for one run the run bytes; for an extract it is the
+/// extract, of records of `size` bytes, and the table is what its buffer holds; `listed` are the numbers of its records
+/// where these are chosen, and `base` is the record that its table is to have for its base record. The kind is the byte
+/// that came: `main` has the kinds.
 #[derive(Clone, Copy)]
 pub struct Question<'a> {
     pub kind: u8,

@@ -1,12 +1,14 @@
 //! Answers in words and decimal numbers.
 use extract::{Extracted, Judged, RefusedRecord};
 use fields::{Counted, RecordNumber, Refusal};
+use filename::{Found, Namespace};
 use items::{Item, Key, Rest, State, Walked};
 use list::{Entry, Listed};
 use parts::Part;
 use record::{Attribute, FullHeader, RecordHeader, Span, Value, View};
 use references::{References, Rising};
 use runs::{Decoded, Run};
+use segments::{Hazard, Reference};
 use std::io;
 use std::io::Write;
 use table::TableHeader;
@@ -211,6 +213,58 @@ impl Tell for References {
 impl Tell for Rising {
     fn tell<W: Write>(&self, out: &mut W) -> io::Result<()> {
         numbers(out, "rising", &self.numbers[..self.count])
+    }
+}
+
+impl Tell for Reference {
+    fn tell<W: Write>(&self, out: &mut W) -> io::Result<()> {
+        write!(out, "reference {} {}", self.file.0, self.sequence)
+    }
+}
+
+impl Tell for Hazard {
+    fn tell<W: Write>(&self, out: &mut W) -> io::Result<()> {
+        match self {
+            Hazard::Sequence {
+                place,
+                file,
+                named,
+                has,
+            } => {
+                write!(out, "sequence {place} {}", file.0)?;
+                write!(out, " {named} {has}")
+            }
+            Hazard::NotInUse(file) => write!(out, "unused {}", file.0),
+            Hazard::OtherBase { file, base } => {
+                write!(out, "other {}", file.0)?;
+                write!(out, " {} {}", base.file.0, base.sequence)
+            }
+        }
+    }
+}
+
+impl Tell for Namespace {
+    fn tell<W: Write>(&self, out: &mut W) -> io::Result<()> {
+        match self {
+            Namespace::Posix => out.write_all(b"posix"),
+            Namespace::Win32 => out.write_all(b"win32"),
+            Namespace::Dos => out.write_all(b"dos"),
+            Namespace::Win32AndDos => out.write_all(b"both"),
+            Namespace::Other(number) => write!(out, "other {number}"),
+        }
+    }
+}
+
+impl Tell for Found {
+    fn tell<W: Write>(&self, out: &mut W) -> io::Result<()> {
+        match self {
+            Found::Yes => out.write_all(b"found yes"),
+            Found::No => out.write_all(b"found no"),
+            Found::Unknown(refusal) => {
+                out.write_all(b"found unknown ")?;
+                refusal.tell(out)
+            }
+        }
     }
 }
 

@@ -1,14 +1,10 @@
-pub mod Absences
-pub mod Doors
 pub mod Escapes
 pub mod Strings
 pub mod Listings
 pub mod Fronts
-pub mod Gathering
 pub mod Misfits
 pub mod Moved
 pub mod Making
 pub mod Passed
 pub mod Sizes
 pub mod Taken
-pub mod Worst

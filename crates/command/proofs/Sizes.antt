@@ -1,5 +1,5 @@
 -- An extract's record size is above 0, and fits 16 bits.
-use Rattle.std.specs.Prelude.{ℕ, ◌≤◌, ◌<◌, ◌≡◌, Bool, true, false, List, Option, Some, None, Ok}
+use Rattle.std.specs.Prelude.{ℕ, ◌≤◌, ◌<◌, ◌≡◌, Bool, true, false, List, Some, None}
 use Rattle.std.proofs.Common.{arith, refl, subst}
 use Rattle.std.proofs.lemmas.Bool.Decides.{nat_tests}
 use Rattle.fields.specs.Pick.{pick}
@@ -7,8 +7,7 @@ use Rattle.fields.specs.Answer.{Outcome, gives, refuses}
 use Rattle.record.specs.Open.{Lent, open_of}
 use Rattle.record.specs.Header.{header_of}
 use Rattle.extract.specs.Size.{good_size}
-use Rattle.command.specs.Extraction.{good_or_none, told_size, size_told, size_or, size_of}
-use Rattle.command.specs.declared.reason.Reason.{Reason}
+use Rattle.command.specs.Extraction.{good_or_none, told_size, size_told}
 
 pub size_above_0 : (n : ℕ) → good_size n ≡ true → 0 < n
 unfolding good_size
@@ -47,16 +46,6 @@ good_told : (a : Outcome Lent) (k : ℕ) → told_size a ≡ Some k → good_siz
 good_told (gives r) k e = good_found (header_of r.bytes).allocated k e
 good_told (refuses r) k e = let q : ⊥ = cc in absurd q
 
-good_front : (front : List ℕ) (k : ℕ) → size_told front ≡ Some k → good_size k ≡ true
+pub good_front : (front : List ℕ) (k : ℕ) → size_told front ≡ Some k → good_size k ≡ true
 unfolding size_told
 good_front front k e = good_told (open_of front (record { 0 = 0 })) k e
-
-good_or : (why : Reason) (o : Option ℕ) (n : ℕ) → ((k : ℕ) → o ≡ Some k → good_size k ≡ true) → size_or why o ≡ Ok n
-    → good_size n ≡ true
-good_or why (Some k) n good e = let q : k ≡ n = cc in subst (λ (x : ℕ). good_size x ≡ true) q (good k refl)
-good_or why None n good e = let q : ⊥ = cc in absurd q
-
-pub good_size_of : (w : Option ℕ) (front : List ℕ) (n : ℕ) → size_of w front ≡ Ok n → good_size n ≡ true
-unfolding size_of
-good_size_of (Some m) front n e = good_or _ (good_or_none m) n (good_found m) e
-good_size_of None front n e = good_or _ (size_told front) n (good_front front) e

@@ -15,10 +15,4 @@ pub mod Moves
 pub mod Run
 pub mod Counts
 pub mod Make
-pub mod Absence
-pub mod Layout
-pub mod Fetch
-pub mod Gather
-pub mod Door
-pub mod Mft
 pub mod Laws

@@ -1,8 +1,6 @@
 -- How a file's name is shown.
 use Rattle.std.specs.Prelude.{ℕ, List, [], ◌∷◌, ◌++◌, ◌||◌, Bool, eqb, flat_map, codes}
 use Rattle.std.specs.Char.Escape.{escape_ascii}
-use Rattle.std.specs.Fmt.{decimal}
-use Rattle.fields.specs.declared.RecordNumber.{RecordNumber}
 use Rattle.fields.specs.Pick.{pick}
 use Rattle.lines.specs.Line.{newline}
 use Rattle.report.specs.Json.{opened, closed}
@@ -28,8 +26,3 @@ abbrev pub heading_of : Form → List ℕ → List ℕ
 heading_of form.Text name = codes "table " ++ shown_of name ++ newline
 heading_of form.Json name =
     opened "table" ++ (codes ",\"name\":\"" ++ string_of (shown_of name) ++ (34 ∷ closed))
-
--- `file N`, or `{"line":"file","number":N}`: the line before what is told of a record of an $MFT
-abbrev pub file_line : Form → RecordNumber → List ℕ
-file_line form.Text n = codes "file " ++ decimal n.0 ++ newline
-file_line form.Json n = opened "file" ++ (codes ",\"number\":" ++ decimal n.0 ++ closed)

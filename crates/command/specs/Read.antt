@@ -16,6 +16,8 @@ use Rattle.command.specs.declared.reason.Reason.TheVariants.{
   RecordRefused,
   Absent,
   Lost,
+  Unlisted,
+  Unsearched,
   Unreadable,
   OutOfMemory,
 }
@@ -41,3 +43,5 @@ IsUnread (Unmade why) = ⊥
 IsUnread (RecordRefused first) = ⊥
 IsUnread (Absent n why) = ⊥
 IsUnread (Lost n of why) = ⊥
+IsUnread (Unlisted n cause) = ⊥
+IsUnread (Unsearched n cause) = ⊥

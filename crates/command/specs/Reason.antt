@@ -27,6 +27,8 @@ use Rattle.command.specs.declared.reason.Reason.TheVariants.{
   RecordRefused,
   Absent,
   Lost,
+  Unlisted,
+  Unsearched,
   Unreadable,
   OutOfMemory,
 }
@@ -45,6 +47,8 @@ status_of (Unmade why) = status.Refused
 status_of (RecordRefused first) = status.Stopped
 status_of (Absent n why) = status.Refused
 status_of (Lost n of why) = status.Stopped
+status_of (Unlisted n cause) = status.Stopped
+status_of (Unsearched n cause) = status.Stopped
 status_of (Unreadable error) = status.Unreadable
 status_of OutOfMemory = status.Unreadable
 

@@ -50,13 +50,15 @@ pub fn size_told(front: &[u8]) -> Option<usize>
 }
 
 impl Extraction {
-    ghost use Rattle.std.specs.Prelude.{◌≡◌, ◌*◌, option_map};
+    ghost use Rattle.std.specs.Prelude.{◌≡◌, ◌*◌, true, option_map, IfOk};
+    ghost use Rattle.extract.specs.Size.{good_size};
     ghost use Rattle.command.specs.Extraction.{size_of, first_of, place_of, most_of, number_of_taken, refused_of};
 
     /// The record size: as it is asked for, or else as the record at the input's front tells it.
     #[tactic(auto, using(crate::proofs::Sizes::sizes_fit), unfolding(crate::specs::Extraction::size_of))]
     pub fn size(self, front: &[u8]) -> Result<u16, Reason>
-        ensures { result ≡ size_of self.size front.now }
+        ensures size { result ≡ size_of self.size front.now }
+        ensures good { IfOk result (λ n. good_size n ≡ true) }
     {
         match self.size {
             Some(size) => match good_or_none(size as usize) {

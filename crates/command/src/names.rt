@@ -1,13 +1,10 @@
 //! How a file's name is shown: in bytes that print, so that no name can pass for a line of a listing, or speak to a
 //! terminal.
-ghost use Rattle.std.specs.Prelude.{◌≡◌, ◌++◌, codes, OnOk, IfOk};
+ghost use Rattle.std.specs.Prelude.{◌≡◌, ◌++◌, OnOk, IfOk};
 ghost use Rattle.std.specs.Char.Escape.{escape_ascii};
-ghost use Rattle.lines.specs.Line.{newline};
-ghost use Rattle.report.specs.Json.{opened, closed};
 ghost use Rattle.report.specs.declared.form.Form.TheVariants as forms;
-ghost use Rattle.command.specs.Names.{shown_of, is_escaped, escaped, string_of, heading_of, file_line};
+ghost use Rattle.command.specs.Names.{shown_of, is_escaped, escaped, string_of, heading_of};
 
-use fields::RecordNumber;
 use report::Form;
 use std::alloc::{AllocError, Global};
 use std::fmt;
@@ -104,35 +101,5 @@ pub fn heading(alloc: Global, form: Form, name: &str) -> Result<Vec<u8>, AllocEr
     match form {
         Form::Text => heading_text(alloc, name),
         Form::Json => heading_json(alloc, name),
-    }
-}
-
-fn file_text(alloc: Global, digits: &[u8]) -> Result<Vec<u8>, AllocError>
-    ensures { IfOk result (λ line. line.items ≡ codes "file " ++ digits.now ++ newline) }
-{
-    let mut line = Vec::from_array(alloc, *b"file ")?;
-    line.extend_from_slice(digits)?;
-    line.extend_from_slice(b"\n")?;
-    Ok(line)
-}
-
-fn file_json(alloc: Global, digits: &[u8]) -> Result<Vec<u8>, AllocError>
-    ensures { IfOk result (λ line. line.items ≡ opened "file" ++ (codes ",\"number\":" ++ digits.now ++ closed)) }
-{
-    let mut line = Vec::from_array(alloc, *b"{\"line\":\"file\",\"number\":")?;
-    line.extend_from_slice(digits)?;
-    line.extend_from_slice(b"}\n")?;
-    Ok(line)
-}
-
-/// The line that stands before what is told of a record of an $MFT: `file N`, or an object of JSON that says the same.
-pub fn file_line(alloc: Global, form: Form, number: RecordNumber) -> Result<Vec<u8>, AllocError>
-    ensures { IfOk result (λ line. line.items ≡ file_line form number) }
-{
-    let mut digits = itoa::Buffer::new();
-    let digits = digits.format(number.0).as_bytes();
-    match form {
-        Form::Text => file_text(alloc, digits),
-        Form::Json => file_json(alloc, digits),
     }
 }

@@ -13,10 +13,10 @@ use std::io::{ErrorKind, Read};
 // How many bytes are read at once, at most.
 pub(crate) const CHUNK: usize = 65_536;
 
-// Reads once, also where an interruption comes first; with as many turns as a number counts, since a reader may be
-// interrupted for ever.
+/// Reads once, also where an interruption comes first.
+// With as many turns as a number counts, since a reader may be interrupted for ever.
 #[tactic(auto, using(crate::proofs::Moved::kept_first))]
-pub(crate) fn read_once<R: Read>(input: &mut R, room: &mut [u8]) -> io::Result<usize>
+pub fn read_once<R: Read>(input: &mut R, room: &mut [u8]) -> io::Result<usize>
     ensures within { IfOk result (λ n. n ≤ length room.new) }
     ensures bytes { IfOk result (λ n.
         Consumes (R.remaining input.old) (R.remaining input.new) (take n room.new)) }

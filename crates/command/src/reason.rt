@@ -37,6 +37,10 @@ pub enum Reason {
     Absent(RecordNumber, Absence),
     #[error("record {number}, to which a list of record {of} refers: {2}", number = .0.0, of = .1.0)]
     Lost(RecordNumber, RecordNumber, Absence),
+    #[error("record {number}: {1} ({cause})", number = .0.0, cause = .1.number())]
+    Unlisted(RecordNumber, Cause),
+    #[error("record {number} may have the name too, its listing stops: {1} ({cause})", number = .0.0, cause = .1.number())]
+    Unsearched(RecordNumber, Cause),
     #[error("{0}")]
     Unreadable(io::Error),
     #[error("out of memory")]
@@ -67,7 +71,11 @@ impl Reason {
         ensures { result ≡ status_of self }
     {
         match self {
-            Reason::Stopped(_) | Reason::RecordRefused(_) | Reason::Lost(..) => Status::Stopped,
+            Reason::Stopped(_)
+            | Reason::RecordRefused(_)
+            | Reason::Lost(..)
+            | Reason::Unlisted(..)
+            | Reason::Unsearched(..) => Status::Stopped,
             Reason::Empty
             | Reason::RawRecord
             | Reason::NoTable(_)

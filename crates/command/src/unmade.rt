@@ -46,9 +46,9 @@ impl Unmade {
         }
     }
 
-    // Why the call refuses an extract, by 34 or 44: its buffer is always long enough.
+    /// Why the call refuses an extract, by 34 or 44: its buffer is always long enough.
     #[tactic(auto, unfolding(crate::specs::Unmade::by_refusal))]
-    pub(crate) fn by_refusal(refusal: Refusal) -> Unmade
+    pub fn by_refusal(refusal: Refusal) -> Unmade
         ensures { result ≡ by_refusal refusal }
     {
         if refusal.cause.number() == Cause::TooManyRows.number() {

@@ -1,6 +1,6 @@
 -- RULES 26: what holds of names whatever the bytes; src/laws.rt has the functions whose contracts these are.
-use Rattle.std.specs.Prelude.{ℕ, ◌+◌, ◌*◌, ◌≤◌, ◌≡◌, List, ◌∷◌, ◌++◌, length, get_or, take, drop}
-use Rattle.std.specs.Prelude.{◌⊎◌, true, Decides, Contains}
+use Rattle.std.specs.Prelude.{ℕ, ◌+◌, ◌*◌, ◌≤◌, ◌≡◌, List, [], ◌∷◌, ◌++◌, map, length, get_or, take, drop}
+use Rattle.std.specs.Prelude.{◌⊎◌, Contains}
 use Rattle.std.specs.Prelude.{Option, Some, slice_get}
 use Rattle.fields.specs.Answer.{Outcome, gives, refuses}
 use Rattle.fields.specs.declared.RecordNumber.{RecordNumber}
@@ -9,11 +9,15 @@ use Rattle.record.specs.Open.{Lent}
 use Rattle.record.specs.View.{Piece}
 use Rattle.record.specs.Value.{resident, value_of}
 use Rattle.items.specs.Lookup.{lookup_of}
+use Rattle.items.specs.Calls.{items_of}
 use Rattle.items.specs.declared.walk.Item.{Item}
+use Rattle.agreement.specs.Laws.{OfAgreeing}
 use Rattle.filename.specs.declared.value.Namespace.{Namespace}
 use Rattle.filename.specs.declared.value.Namespace.TheVariants.{Posix, Win32, Win32AndDos}
 use Rattle.filename.specs.Name.{Name, name, namespace_of, name_of}
-use Rattle.filename.specs.Names.{name_by, names_in, is_among}
+use Rattle.filename.specs.Names.{given, name_by, names_in, names_of, found_of}
+use Rattle.filename.specs.declared.find.Found.{Found}
+use Rattle.filename.specs.declared.find.Found.TheVariants.{Yes, No, Unknown}
 
 -- a name in a value: two bytes for each unit, behind the first 66 bytes and in front of whatever else the value has
 pub record Lies (v : List ℕ) (m : Name) : Type 0 where
@@ -58,10 +62,27 @@ abbrev pub RefusalsEnd : Type 0
 RefusalsEnd = (s : List ℕ) (n : RecordNumber) (look : RecordNumber → Option (List ℕ)) (xs ys : List (Outcome Item))
     (r : Refusal) → names_in s n look (xs ++ (refuses r ∷ ys)) ≡ names_in s n look xs
 
--- a name is among others where it is one of them, and nowhere else
-abbrev pub Has : Type 0
-Has = (wanted : List ℕ) (ms : List (List ℕ)) → Decides (is_among wanted ms) (Contains ms wanted)
+-- what each answer says of a name that is sought, where these are the names of a walk and these its items: the walk
+-- came to its end, or is ended by the refusal
+abbrev pub Says : List ℕ → List (List ℕ) → List (Outcome Item) → Found → Type 0
+Says wanted ms xs Yes = Contains ms wanted
+Says wanted ms xs No = (Contains ms wanted → ⊥) × (xs ≡ map gives (given xs))
+Says wanted ms xs (Unknown r) = (Contains ms wanted → ⊥) × (xs ≡ map gives (given xs) ++ (refuses r ∷ []))
 
--- the first of some names is one of them
+-- RULES 26.4: a name is told to be there, or not to be, or to be unknown, just where it is so
+abbrev pub Has : Type 0
+Has = (s : List ℕ) (n : RecordNumber) (look : RecordNumber → Option (List ℕ)) (wanted : List ℕ)
+    → Says wanted (names_of s n look) (items_of s n look) (found_of s n look wanted)
+
+-- a file has its first name
 abbrev pub HasFirst : Type 0
-HasFirst = (m : List ℕ) (ms : List (List ℕ)) → slice_get ms 0 ≡ Some m → is_among m ms ≡ true
+HasFirst = (s : List ℕ) (n : RecordNumber) (look : RecordNumber → Option (List ℕ)) (m : List ℕ)
+    → slice_get (names_of s n look) 0 ≡ Some m → found_of s n look m ≡ Yes
+
+-- RULES 26.5: two lookups that agree on what the lists refer to give the same names
+abbrev pub NamesAgree : Type 0
+NamesAgree = OfAgreeing λ s n look peek. names_of s n look ≡ names_of s n peek
+
+-- and the same answer to whether one is there
+abbrev pub FoundAgree : Type 0
+FoundAgree = OfAgreeing λ s n look peek. (wanted : List ℕ) → found_of s n look wanted ≡ found_of s n peek wanted

@@ -1,5 +1,7 @@
 //! The names of a file, one by one (RULES 26.3).
-ghost use Rattle.std.specs.Prelude.{◌≡◌};
+ghost use Rattle.std.specs.Prelude.{◌≡◌, option_copied};
+ghost use Rattle.items.specs.OfFile.{of_file};
+ghost use Rattle.filename.specs.Names.{name_by};
 
 use crate::name_of;
 use items::{File, Item, Items};
@@ -15,31 +17,25 @@ pub struct Names<'a> {
 // The type of an attribute whose value is a file name.
 const FILE_NAME: u32 = 0x30;
 
-impl<'a> Names<'a> {
-    ghost use Rattle.std.specs.Prelude.{◌≡◌, option_copied};
-    ghost use Rattle.items.specs.OfFile.{of_file};
-    ghost use Rattle.filename.specs.Names.{name_by};
-
-    // The long name of an item, if it has one.
-    #[tactic(auto, unfolding(crate::specs::Names::name_by, crate::specs::Names::value_by))]
-    fn name(&self, item: &Item) -> Option<&'a [u8]>
-        ensures { option_copied result ≡ of_file name_by self.now.file item.now }
-    {
-        if item.attribute.ty != FILE_NAME {
-            return None;
-        }
-        let Ok(within) = self.file.lookup(item.file, 0) else {
-            return None;
-        };
-        let Ok(Value::Resident(value)) = within.value(item.attribute.offset) else {
-            return None;
-        };
-        let name = name_of(value.bytes)?;
-        if name.namespace.is_long() {
-            Some(name.bytes)
-        } else {
-            None
-        }
+// The long name of an item, if it has one.
+#[tactic(auto, unfolding(crate::specs::Names::name_by, crate::specs::Names::value_by))]
+pub(crate) fn long_name<'a>(file: &File<'a>, item: &Item) -> Option<&'a [u8]>
+    ensures { option_copied result ≡ of_file name_by file.now item.now }
+{
+    if item.attribute.ty != FILE_NAME {
+        return None;
+    }
+    let Ok(within) = file.lookup(item.file, 0) else {
+        return None;
+    };
+    let Ok(Value::Resident(value)) = within.value(item.attribute.offset) else {
+        return None;
+    };
+    let name = name_of(value.bytes)?;
+    if name.namespace.is_long() {
+        Some(name.bytes)
+    } else {
+        None
     }
 }
 
@@ -59,7 +55,7 @@ impl<'a> Iterator for Names<'a> {
             let Ok(item) = answer else {
                 return None;
             };
-            if let Some(name) = self.name(&item) {
+            if let Some(name) = long_name(&self.file, &item) {
                 return Some(name);
             }
         }

@@ -1,5 +1,6 @@
 //! What holds of names whatever the bytes, each law the contract of a function that does nothing.
 ghost use Rattle.filename.specs.Laws.{NamesLie, NamesReadBack, ItemsHaveNames, RefusalsEnd, Has, HasFirst};
+ghost use Rattle.filename.specs.Laws.{NamesAgree, FoundAgree};
 ghost use Rattle.filename.specs.Cases.{BothSides};
 
 /// The cases on both sides of each line (RULES 26).
@@ -21,8 +22,15 @@ pub fn items_have_names()
     ensures refusals { RefusalsEnd }
 {}
 
-/// A file has a name where it is one of its names, and nowhere else; its first one is one of them (RULES 26.4).
+/// A file has a name where it is one of its names, and nowhere else; it is told not to have it only where its walk came
+/// to its end. It has its first name (RULES 26.4).
 pub fn names_are_found()
     ensures has { Has }
     ensures first { HasFirst }
+{}
+
+/// Names depend on the base record and on the records that its lists refer to alone (RULES 26.5).
+pub fn names_are_those_of_the_references()
+    ensures names { NamesAgree }
+    ensures found { FoundAgree }
 {}

@@ -1,15 +1,17 @@
 //! The names of a file (docs/RULES.md, section 26): those that its attributes of type 48 have as their values.
 #![tactic(auto)]
 
+mod find;
 mod iterate;
 pub mod laws;
 mod value;
 
 ghost use Rattle.std.specs.Prelude.{◌≡◌, slice_get, option_copied};
 ghost use Rattle.items.specs.OfFile.{of_file};
-ghost use Rattle.filename.specs.Names.{names_of, is_among};
+ghost use Rattle.filename.specs.Names.{names_of};
 ghost use Rattle.filename.specs.Rest.{rest};
 
+pub use find::{Found, find_name};
 use items::File;
 pub use iterate::Names;
 pub use value::{FileName, Namespace, name_of};
@@ -31,12 +33,4 @@ pub fn first_name<'a>(file: &File<'a>) -> Option<&'a [u8]>
     ensures { option_copied result ≡ slice_get (of_file names_of file.now) 0 }
 {
     names_of(file).next()
-}
-
-/// Whether a file has a name, handed in as the bytes of its units, the low one first: any of its names may be that
-/// one, and capitals are told apart (RULES 26.4).
-pub fn has_name(file: &File<'_>, wanted: &[u8]) -> bool
-    ensures { result ≡ is_among wanted.now (of_file names_of file.now) }
-{
-    names_of(file).any(|name| wanted == name)
 }

@@ -1,4 +1,5 @@
 mod Causes
+mod Checked
 mod CommandLine
 mod Extracted
 mod Said

@@ -21,6 +21,8 @@ use Rattle.command.specs.declared.reason.Reason.TheVariants.{
   RecordRefused,
   Absent,
   Lost,
+  Unlisted,
+  Unsearched,
   Unreadable,
   OutOfMemory,
 }
@@ -38,6 +40,8 @@ of_reason (Unmade why) = omega arith
 of_reason (RecordRefused first) = omega arith
 of_reason (Absent n why) = omega arith
 of_reason (Lost n of why) = omega arith
+of_reason (Unlisted n cause) = omega arith
+of_reason (Unsearched n cause) = omega arith
 of_reason (Unreadable error) = omega arith
 of_reason OutOfMemory = omega arith
 

@@ -13,9 +13,9 @@ use Rattle.clap.specs.declared.builder.value_parser.ValueParser.TheVariants.{Uns
 abbrev pub most_u64 : ℕ
 most_u64 = 18446744073709551615
 
--- `--json`
-abbrev pub json_rule : Rule
-json_rule = record (new_rule (codes "json")) { long = Some (codes "json"); action = Some SetTrue }
+-- `--ID`
+abbrev pub flag_rule : List ℕ → Rule
+flag_rule id = record (new_rule id) { long = Some id; action = Some SetTrue }
 
 -- `--ID N`, and `N` alone, which has to be there
 abbrev pub number_rule : List ℕ → Rule
@@ -32,9 +32,12 @@ refusal_rule = record (new_rule (codes "number")) {
   required = true;
 }
 
--- `--mft MFT`
-abbrev pub mft_rule : Rule
-mft_rule = record (new_rule (codes "mft")) { long = Some (codes "mft"); value_names = 1 }
+-- `--ID TEXT`
+abbrev pub text_rule : List ℕ → Rule
+text_rule id = record (new_rule id) { long = Some id; value_names = 1 }
+
+abbrev pub json_rule : Rule
+json_rule = flag_rule (codes "json")
 
 -- `[TABLE]..`, and `[FILE]` or `[MFT]`
 abbrev pub tables_rule : Rule
@@ -55,8 +58,9 @@ table_rule = record (new_rule (codes "table")) { short = Some 111; value_names =
 abbrev pub list_shape : Shape
 list_shape = record (new_shape (codes "list")) {
   rules =
-      number_rule (codes "base") ∷ mft_rule ∷ number_rule (codes "size") ∷ number_rule (codes "first") ∷ json_rule
-      ∷ tables_rule ∷ [];
+      number_rule (codes "base") ∷ text_rule (codes "mft") ∷ number_rule (codes "size")
+      ∷ number_rule (codes "first") ∷ flag_rule (codes "all") ∷ text_rule (codes "find") ∷ flag_rule (codes "names")
+      ∷ flag_rule (codes "strict") ∷ json_rule ∷ tables_rule ∷ [];
 }
 
 abbrev pub rows_shape : Shape

@@ -4,3 +4,4 @@ pub mod Wishes
 pub mod Inputs
 pub mod Answers
 pub mod Door
+pub mod Warning

@@ -1,5 +1,6 @@
 -- What the words behind a subcommand ask for.
 use Rattle.std.specs.Prelude.{ℕ, ◌≡◌, ◌≢◌, ◌<◌, ◌^◌, List, Option, Some, None, codes, option_map, unwrap_or}
+use Rattle.std.specs.Prelude.{Bool, true, false}
 use Rattle.std.specs.Str.Parse.{IsNumeral, digits_value, without_leading_plus}
 use Rattle.clap.specs.Words.{found_of, one_text}
 use Rattle.clap.specs.declared.parser.matches.ArgMatches.{ArgMatches}
@@ -28,6 +29,13 @@ Counts (Some t) None = IsNumber t → ⊥
 -- the value of an option as a number, 0 where it is left out
 abbrev pub CountsOr0 : Option (List ℕ) → ℕ → Type 0
 CountsOr0 value n = (given : Option ℕ) × Counts value given × (n ≡ unwrap_or given 0)
+
+-- a flag is `true` where it is given, and `false` or nothing where it is not
+abbrev pub Flags : Option (List ℕ) → Bool → Type 0
+Flags value set =
+    (value ≡ None → set ≡ false)
+    × (value ≡ Some (codes "true") → set ≡ true)
+    × (value ≡ Some (codes "false") → set ≡ false)
 
 -- `--json` is `true` where it is given, and `false` or nothing where it is not
 abbrev pub Forms : Option (List ℕ) → Form → Type 0

@@ -17,6 +17,8 @@ mod numbers;
 mod options;
 mod output;
 mod progress;
+mod request;
+mod warning;
 mod wishes;
 
 use clap::ArgMatches;
@@ -40,7 +42,7 @@ fn obey<R: Print + Eprint + Input + Files + Clock + AllocGlobal>(
 {
     match asked.subcommand() {
         Some(("explain", options)) => explain::obey(rt, options),
-        Some(("list", options)) if door::is_asked(options) => door::obey(rt, options),
+        Some(("list", options)) if door::is_asked(options) => door::obey(rt, streams, options),
         Some(("extract", options)) => {
             let asked = extraction::asked(options);
             let table = options.get_str(TABLE);

@@ -1,8 +1,9 @@
 //! The command line.
-ghost use Rattle.std.specs.Prelude.{IfOk};
-ghost use Rattle.nomutanku.specs.CommandLine.{IsRead, Is, leaf, number_rule, json_rule, tables_rule, file_rule};
-ghost use Rattle.nomutanku.specs.CommandLine.{list_shape, rows_shape, record_shape, mft_rule, table_rule};
-ghost use Rattle.nomutanku.specs.CommandLine.{extract_shape};
+ghost use Rattle.std.specs.Prelude.{IfOk, codes};
+ghost use Rattle.clap.specs.Simple.{new_shape};
+ghost use Rattle.nomutanku.specs.CommandLine.{IsRead, Is, leaf, number_rule, text_rule, flag_rule, tables_rule};
+ghost use Rattle.nomutanku.specs.CommandLine.{file_rule, table_rule};
+ghost use Rattle.nomutanku.specs.CommandLine.{list_shape, rows_shape, record_shape, extract_shape};
 ghost use Rattle.nomutanku.specs.CommandLine.{explain_shape, program_shape, command_line};
 
 use clap::{Arg, ArgAction, Command, value_parser};
@@ -13,6 +14,9 @@ pub const INPUTS: &str = "inputs";
 
 /// By this id the raw $MFT is asked for that records are listed from.
 pub const MFT: &str = "mft";
+
+/// By this id the name is asked for that files of a raw $MFT are listed by.
+pub const FIND: &str = "find";
 
 /// By this id the file that a table goes to is asked for.
 pub const TABLE: &str = "table";
@@ -27,7 +31,8 @@ const PROTECTED: &str =
 
 const LISTED: &str =
     "With --mft each word names a record of a raw $MFT of any size, by its number, and only the records\n\
-    are read that its listing takes. --size and --first tell how they stand in it.";
+    are read that its listing takes. --size and --first tell how they stand in it. --all and --find go\n\
+    over all of it, in the place of words.";
 
 const EXTRACTS: &str =
     "An extract has records as they lie on the disk, one behind another; one at position P, from 0 on,\n\
@@ -37,6 +42,20 @@ const EXTRACTS: &str =
 const SIZE: &str = "Records have N bytes; as many as the first one tells where it is left out";
 
 const FIRST: &str = "The number of the record at position 0; 0 where it is left out";
+
+const JSON: &str = "Write an object of JSON for each line";
+
+const RAW_MFT: &str =
+    "List records of this raw $MFT, which are named by their numbers in the place of tables";
+
+const EVERY: &str = "List every base record in use of the raw $MFT";
+
+const BY_NAME: &str =
+    "List every base record in use whose file has this name, capitals told apart: all are gone over";
+
+const NAMES: &str = "Put a file's name behind its number";
+
+const STRICT: &str = "Exit with 1 where a record shows that it may be another file's";
 
 const FROM: &str = "Begin with the record at this position; at 0 where it is left out";
 
@@ -56,22 +75,21 @@ fn number<'a>(alloc: Global, id: &'a str, name: &'a str, help: &'a str) -> Arg<'
         .help(help)
 }
 
-fn json<'a>(alloc: Global) -> Arg<'a>
-    ensures { IsRead json_rule result }
+// `--ID TEXT`, where TEXT goes by a name
+fn text<'a>(alloc: Global, id: &'a str, name: &'a str, help: &'a str) -> Arg<'a>
+    ensures { IsRead (text_rule id.entry.now) result }
 {
-    Arg::new(alloc, "json")
-        .long("json")
-        .action(ArgAction::SetTrue)
-        .help("Write an object of JSON for each line")
+    Arg::new(alloc, id).long(id).value_name(name).help(help)
 }
 
-// `--mft MFT`
-fn mft<'a>(alloc: Global) -> Arg<'a>
-    ensures { IsRead mft_rule result }
+// `--ID`
+fn flag<'a>(alloc: Global, id: &'a str, help: &'a str) -> Arg<'a>
+    ensures { IsRead (flag_rule id.entry.now) result }
 {
-    Arg::new(alloc, MFT).long(MFT).value_name("MFT").help(
-        "List records of this raw $MFT, which are named by their numbers in the place of tables",
-    )
+    Arg::new(alloc, id)
+        .long(id)
+        .action(ArgAction::SetTrue)
+        .help(help)
 }
 
 fn tables<'a>(alloc: Global) -> Arg<'a>
@@ -82,6 +100,15 @@ fn tables<'a>(alloc: Global) -> Arg<'a>
         .action(ArgAction::Append)
         .num_args(0..)
         .help("Tables of records; - is standard input, as is none where something is piped in")
+}
+
+// `list` without its options
+fn listing<'a>(alloc: Global) -> Command<'a>
+    ensures { Is (leaf (new_shape (codes "list"))) result }
+{
+    Command::new(alloc, "list")
+        .about("List the attributes of a table's base record, with their parts and cluster runs")
+        .after_help(LISTED)
 }
 
 fn list<'a>(alloc: Global) -> Result<Command<'a>, AllocError>
@@ -95,14 +122,16 @@ fn list<'a>(alloc: Global) -> Result<Command<'a>, AllocError>
     );
     let size = number(alloc, "size", "N", SIZE);
     let first = number(alloc, "first", "N", FIRST);
-    Command::new(alloc, "list")
-        .about("List the attributes of a table's base record, with their parts and cluster runs")
-        .after_help(LISTED)
+    listing(alloc)
         .arg(base)?
-        .arg(mft(alloc))?
+        .arg(text(alloc, MFT, "MFT", RAW_MFT))?
         .arg(size)?
         .arg(first)?
-        .arg(json(alloc))?
+        .arg(flag(alloc, "all", EVERY))?
+        .arg(text(alloc, FIND, "NAME", BY_NAME))?
+        .arg(flag(alloc, "names", NAMES))?
+        .arg(flag(alloc, "strict", STRICT))?
+        .arg(flag(alloc, "json", JSON))?
         .arg(tables(alloc))
 }
 
@@ -111,7 +140,7 @@ fn rows<'a>(alloc: Global) -> Result<Command<'a>, AllocError>
 {
     Command::new(alloc, "rows")
         .about("Tell what a table holds: each row's record number, place and state")
-        .arg(json(alloc))?
+        .arg(flag(alloc, "json", JSON))?
         .arg(tables(alloc))
 }
 
@@ -135,7 +164,7 @@ fn one_record<'a>(alloc: Global) -> Result<Command<'a>, AllocError>
         )
         .after_help(PROTECTED)
         .arg(number)?
-        .arg(json(alloc))?
+        .arg(flag(alloc, "json", JSON))?
         .arg(file)
 }
 

@@ -1,12 +1,11 @@
 """A second reading of the rules in plain Python, to hold the library's answers to.
 
 It is written from docs/RULES.md (sections cited as RULES n) and not from the library's code: it shares no definition
-with it, so that a slip in one of the two shows as a difference. A module for each layer, each rule in one of them,
-and each module over those below it: `record`, `entries`, `runs`, `table`, `items`, `parts`, `listing`, and what is
-told besides, `directory` (rows), `single` (one record), `references` and `objects` (JSON); and `extracts`, over none of
-them. Apart
-on purpose are the parts in `parts` and in `listing`: they are the rules' longest tale, told by two who share nothing of
-it but the attribute, the entry and the search.
+with it, so that a slip in one of the two shows as a difference. A module for each layer, each rule in one of them, and
+each module over those below it: `record`, `entries`, `runs`, `table`, `items`, `parts`, `listing`, and what is told
+besides, `directory` (rows), `single` (one record), `references`, `hazards`, `names` and `objects` (JSON); and
+`extracts`, over none of them. Apart on purpose are the parts in `parts` and in `listing`: they are the rules' longest
+tale, told by two who share nothing of it but the attribute, the entry and the search.
 
 `without_used_sizes` turns 27 and 28 off, so that it can be told what they alone decide. `joined_by_instance` joins
 entries as they were joined before, by type and instance.

@@ -1,4 +1,4 @@
-use Rattle.filename.proofs.Among.{has, has_first}
+use Rattle.filename.proofs.Says.{has, has_first}
 use Rattle.filename.proofs.laws.names_are_found.Goals as goal
 
 pub returns-clause-has : goal.returns-clause-has

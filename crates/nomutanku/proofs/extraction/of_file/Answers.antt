@@ -4,4 +4,5 @@ use Rattle.nomutanku.proofs.extraction.of_file.Goals as goal
 
 pub returns : goal.returns
 returns g c =
-    made_of_any c.args.asked c.deref.result.now c.in_ok-size.size _ c.in_ok-size.ensures c.extract_rest.ensures.unknown
+    made_of_any c.args.asked c.deref.result.now c.in_ok-size.size _ c.in_ok-size.ensures.size
+    c.extract_rest.ensures.unknown

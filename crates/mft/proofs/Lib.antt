@@ -1,0 +1,12 @@
+pub mod Absences
+pub mod Gathering
+pub mod Heard
+pub mod Listings
+pub mod Makes
+pub mod Readied
+pub mod Rows
+pub mod Small
+pub mod Sorts
+pub mod Tables
+pub mod Texts
+pub mod Turning

@@ -1,0 +1,20 @@
+-- The definition's chapter on records straight from a raw $MFT: what is read of it, and what is told.
+pub mod Absence
+pub mod Layout
+pub mod Fetch
+pub mod Gather
+pub mod Gathered
+pub mod Room
+pub mod Made
+pub mod Kind
+pub mod Sole
+pub mod Records
+pub mod Next
+pub mod Opened
+pub mod Listing
+pub mod Base
+pub mod Seek
+pub mod Sought
+pub mod Told
+pub mod Ready
+pub mod Turn
