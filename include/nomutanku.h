@@ -48,9 +48,10 @@ struct nomutanku_filled {
  *     stopped N reads C    the walk was refused by N; the lines before hold
  *     table refused 21     the only line: malformed, longer than 65,536 bytes, or without a base row
  *
- * docs/RULES.md has the other lines in section 18, and what each number N, 1 to 28, says in section 19. A walk is also
- * refused where an attribute ends past its record's used size (28), and where that size is above the record's length
- * (27): what a reused record keeps behind its used size is not told.
+ * docs/RULES.md has the other lines in section 18, and what each number N, 1 to 28 or 31, says in section 19. A walk is
+ * also refused where an attribute ends past its record's used size (28), and where that size is above the record's
+ * length (27): what a reused record keeps behind its used size is not told. And it is refused where the name of a list
+ * entry lies over the entry's header or goes past its end (31).
  *
  * The call allocates nothing, keeps nothing, and makes no system call, so any number of threads may call it at once,
  * each with a buffer of its own. A table may be shared by them. It ends on every input.

@@ -47,11 +47,11 @@ WHOLE = listing_cases.WHOLE_LISTING.encode()
 # which cannot).
 NEEDED = {
     "table refused 21",
-    *("stopped %d" % n for n in (2, 3, 4, 5, 6, 7, 10, 11, 13, 14, 15, 16, 17, 18, 27, 28)),
+    *("stopped %d" % n for n in (2, 3, 4, 5, 6, 7, 10, 11, 13, 14, 15, 16, 17, 18, 27, 28, 31)),
     *("name refused %d" % n for n in (8, 9)),
     *("value refused %d" % n for n in (7, 10, 11, 12)),
     *("value parts 0 refused %d" % n for n in (7, 12)),
-    *("value parts 1 refused %d" % n for n in (2, 3, 4, 5, 6, 7, 12, 14, 15, 16, 17, 18, 19, 27, 28)),
+    *("value parts 1 refused %d" % n for n in (2, 3, 4, 5, 6, 7, 12, 14, 15, 16, 17, 18, 19, 27, 28, 31)),
     *("run refused %d" % n for n in (23, 24, 25, 26)),
 }
 NEVER = {"stopped %d" % n for n in (1, 8, 9, 12, 19, 20, 21, 22)}

@@ -221,6 +221,7 @@ def test_the_first_refusal_ends_them(test):
         ((14, OWN, inside), list_of(entry(FILE_NAME, 41, 3), cut=1)),
         ((15, OWN, inside), list_of(entry(FILE_NAME, 41, 3, length=25))),
         ((16, OWN, inside), list_of(entry(FILE_NAME, 41, 3, units=1), cut=1)),
+        ((31, OWN, inside), list_of(entry(FILE_NAME, 41, 3, units=1, name_offset=25))),
         ((17, OWN, inside), list_of(entry(FILE_NAME, 39, 3))), ((18, OWN, inside), list_of(entry(FILE_NAME, 41, 4))),
         ((6, OWN, inside), list_of(entry(0x31, 41, 3))), ((6, 42, AT), list_of(entry(FILE_NAME, 42, 3))),
         ((2, 43, 0), list_of(entry(FILE_NAME, 43, 3))), ((27, 44, 0), list_of(entry(FILE_NAME, 44, 3))),

@@ -11,7 +11,7 @@ from lib.building import (
 )
 from lib.damaging import damaged, with_other_used
 from lib.on_names import OPENING, STOPPING, VALUE, OfNames, Question
-from lib.random_tables import chained_table, streams_table, table_in_turn
+from lib.random_tables import ANY_OFFSETS, chained_table, streams_table, table_in_turn
 from lib.reading import items
 from lib.reading.names import names_of
 
@@ -75,7 +75,7 @@ def list_to_names(chance, numbers):
         # instances that the records mostly have, or the walk would seldom come to its end
         instance = chance.randrange(4) if chance.random() < 0.97 else chance.randrange(9)
         length = None if chance.random() < 0.985 else chance.choice((0, 25, 27, 60, 300))
-        entries.append(entry(ty, number, instance, length, lowest=k))
+        entries.append(entry(ty, number, instance, length, lowest=k, name_offset=chance.choice(ANY_OFFSETS)))
     return list_of(*entries, cut=chance.choice((0,) * 12 + (1, ENTRY_BYTES)))
 
 
@@ -118,7 +118,8 @@ def other_name(name, chance):
         return random_text(chance)
     at = chance.randrange(len(name))
     return chance.choice((
-        name[:at], name[at:], name + b"\0\0", name.swapcase(), name[:at] + bytes((name[at] ^ 32,)) + name[at + 1:], b""))
+        name[:at], name[at:], name + b"\0\0", name.swapcase(), b"",
+        name[:at] + bytes((name[at] ^ 32,)) + name[at + 1:]))
 
 
 def wanted_in(names, chance):

@@ -99,6 +99,10 @@ FORMS = [
     (
         "one is added in the ledger", "crates/table/src/look.rt", r"fn add_one\(&mut self\)",
         [r"self\.book\.add\(&mut self\.share, 1\);"]),
+    (
+        "a name is cut out of the list at its own offset", "crates/list/src/lib.rt", r"fn name_bytes<'a>\(",
+        [r"result\.now ≡ name_at rest\.now ", r"&rest\[usize::from\(e\.name_offset\)\.\."]),
+    ("who wants a name has it from there", "crates/list/src/lib.rt", r"pub fn named<'a>\(", [r"name_bytes\(rest, &"]),
     ("a name in 510 bytes", "crates/list/src/lib.rt", r"pub const MOST_NAME: usize = 510;", None),
     (
         "its first bytes are filled, the rest is proved zero", "crates/list/src/named_entry.rt", r"fn padded\(&self\)",

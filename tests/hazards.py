@@ -150,11 +150,12 @@ def test_entries_of_the_base_record(test):
 
 
 def test_each_entry_counts(test):
-    """Of any type, unknown ones too, with a name and any lowest VCN; each is told at its place, twice if it stands
-    twice."""
+    """Of any type, unknown ones too, with a name anywhere and any lowest VCN; each is told at its place, twice if it
+    stands twice."""
     types, at, entries, told = (0, 0x10, 0x20, 0x80, 0x11, 0x110, MARKER), ENTRIES, [], []
     for k, ty in enumerate(types):
-        entries.append(entry(ty, 41, k, units=k % 3, lowest=2 ** 64 - 1 - k, sequence=20 + k, length=40))
+        entries.append(entry(
+            ty, 41, k, units=k % 3, lowest=2 ** 64 - 1 - k, sequence=20 + k, length=40, name_offset=26 + 2 * k))
         told.append(Sequence(at, 41, 20 + k, 3))
         at += 40
     made = segment(list_of(*entries))
@@ -204,7 +205,7 @@ def test_what_can_not_be_looked_up(test):
 
 
 def test_the_first_refusal_stops_the_entries(test):
-    """14, 15 and 16, 3, 4, 5 and 28, and 7, 10, 11 and 13: nothing is told of what stands behind, neither of the
+    """14, 15, 31 and 16, 3, 4, 5 and 28, and 7, 10, 11 and 13: nothing is told of what stands behind, neither of the
     entries nor of the records that they name, and the refusal is no hazard."""
     before, behind = list_to(41), list_to(42)
     held = {"r%d" % n: extension(sequence=n) for n in (41, 42, 43)}
@@ -212,6 +213,8 @@ def test_the_first_refusal_stops_the_entries(test):
     at = FIRST + length_of(before)
     for bad in (
         list_of(entry(0x80, 43), cut=1), list_of(entry(0x80, 43, length=25)), list_of(entry(0x80, 43, units=2), cut=1),
+        list_of(entry(0x80, 43, units=2, name_offset=40), cut=14), list_of(entry(0x80, 43, units=2, name_offset=25)),
+        list_of(entry(0x80, 43, units=2, name_offset=27, length=30)),
         head(0x80, 15), head(0x80, 0), head(0x80, 512 - at + 1), head(LIST, MARKER), non_resident(LIST),
         resident(LIST, length=16, cut=True), resident(LIST, length=32, value=33), resident(LIST, length=32, count=9),
     ):

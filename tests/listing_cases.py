@@ -371,6 +371,42 @@ def walks_along_lists():
 AFTER = plain(5)
 
 
+def after(entries):
+    """The line of AFTER behind a list of these entries, the first attribute of its record."""
+    at = 56 + len(list_of(*entries))
+    return "attr 40 %d 16 24 5 name 0 0 value resident %d 0" % (at, at + 24)
+
+
+def walks_to_names_of_entries():
+    """31, and 16 at the name's own place."""
+    yield Case(
+        "stopped-31", of(list_of(to(BASE, units=1, name_offset=25)), size=112, end=b""),
+        "a name over its entry's header by a byte", "stopped 31 reads 1", ("record 40 size 112",), whole=True)
+    for name, number, about, last, cut in (
+        ("31-front", 31, "a name at its entry's front", to(units=1, name_offset=0), 0),
+        ("31-past", 31, "a name that ends a byte past its entry", to(units=1, length=29, name_offset=28), 0),
+        ("31-before-16", 31, "31 before 16: a name past its entry and past the list",
+         to(units=1, length=28, name_offset=27), 3),
+        ("15-before-31", 15, "15 before 31: entry length 27 with one name unit at 25",
+         to(units=1, length=27, name_offset=25), 0),
+        ("16-offset", 16, "a name that ends a byte past the list, where it would be all there at 26",
+         to(units=1, name_offset=40), 1)):
+        yield Case(
+            "stopped-" + name, of(FRONT, list_of(to(BASE), last, cut=cut)), about, "stopped %d reads 3" % number,
+            LOOKUP, whole=True)
+    yield Case(
+        "entry-longer-named", of(FRONT, list_of(to(units=1, length=40, name_offset=30), cut=8), plain(2)),
+        "an entry longer than what is left, its name ends there: the list ends", "end reads 3",
+        (*LOOKUP, "attr 40 144 16 24 2 name 0 0 value resident 168 0"), whole=True)
+    for name, about, entries in (
+        ("name-at-end", "a name that ends with its entry and the list", [to(units=1, name_offset=40)]),
+        ("offset-0", "no name, at 0", [to(name_offset=0)]), ("offset-255", "no name, at 255", [to(name_offset=255)])):
+        # the list 1, entry and attribute 2, and the same for its part; the attribute behind it
+        yield Case(
+            "entry-" + name, of(list_of(*entries), AFTER, others=[[stream()]]), about, "end reads 6",
+            (HEADER, LINE + "1 size 4000", GOOD, after(entries)), whole=True)
+
+
 def one(name, attribute, about, ended, *under, **more):
     """A case of an attribute at 56, with these lines under its own, and one behind it."""
     at = 56 + len(attribute)
@@ -606,12 +642,16 @@ def parts_behind():
         "the VCN is the attribute's own, not the entry's", "end reads 5", ("part 41 56 78 120 0",))
 
 
-def named(name, *lows):
+def entry_of(file, name, lowest, padding=b""):
+    """An entry of this name, at 32 where there is padding in front of it."""
+    text = name.encode("utf-16-le")
+    more = {"name_offset": 32, "padding": padding} if padding else {}
+    return to(file, units=len(text) // 2, name=text, lowest=lowest, **more)
+
+
+def named(names, lows, paddings=(b"", b"")):
     """Two entries of these names, from these VCNs on: they name 41 and 42."""
-    names, files = name.split("/"), (OTHER, THIRD)
-    texts = [text.encode("utf-16-le") for text in names]
-    return list_of(*(
-        to(file, units=len(text) // 2, name=text, lowest=lowest) for file, text, lowest in zip(files, texts, lows)))
+    return list_of(*map(entry_of, (OTHER, THIRD), names.split("/"), lows, paddings))
 
 
 # two streams: an item with one part of each, the second one's from VCN 4 on
@@ -620,7 +660,7 @@ APART = ("attr 42 56 128 64 1 name 0 0 value parts 1 size 4000", "part 42 56 4 1
 
 def joined():
     """What makes two entries one stream, by their names and the second one's VCN."""
-    for name, names, lows, one_stream in (
+    for name, names, lows, one_stream, *paddings in (
         ("parts-named", "ab/ab", (0, 4), True), ("parts-named-0", "ab/ab", (0, 0), False),
         ("parts-anew", "/", (0, 0), False), ("parts-vcn-1", "/", (0, 1), True),
         ("parts-vcn-most", "/", (FIELD_MOST, FIELD_MOST), True), ("parts-longer", "ab/abc", (0, 4), False),
@@ -629,8 +669,14 @@ def joined():
         ("parts-zero", "a/a\0", (0, 4), False), ("parts-name-255", 255 * "x" + "/" + 255 * "x", (0, 4), True),
         ("parts-name-255-last", 255 * "x" + "/" + 254 * "x" + "y", (0, 4), False),
         ("parts-name-254", 255 * "x" + "/" + 254 * "x", (0, 4), False),
+        # other padding and one name; one padding, which is the first one's name, and other names; and a name at 26
+        ("parts-padded-other", "ab/ab", (0, 4), True, (b"1", b"2")),
+        ("parts-padded-alike", "ab/aB", (0, 4), False, (b"a\0b\0", b"a\0b\0")),
+        ("parts-padded-unnamed", "/ab", (0, 4), False, (b"", b"1")),
+        ("parts-padded-behind", "ab/ab", (0, 4), True, (b"", b"a\0B\0")),
+        ("parts-padded-before", "ab/ab", (0, 4), True, (b"\0", b"")),
     ):
-        held = named(names, *lows)
+        held = named(names, lows, *paddings)
         behind = 56 + len(held)
         lines = ("2 size 4000", GOOD, APART[1]) if one_stream else ("1 size 4000", GOOD, *APART)
         # the list, an entry and an attribute; the parts of one item with two, or of two with one, the first of which
@@ -638,12 +684,31 @@ def joined():
         reads = 3 + (4 if one_stream else 2 + 1 + 2) + (1 if one_stream else 2) + 1
         yield Case(
             name, of(held, AFTER, others=[[stream()], [stream(lowest=4)]], size=2048),
-            "two entries of the names %s and %s, from VCN %d and %d on" % (
-                *(shown(text) for text in names.split("/")), *lows),
+            "two entries of the names %s and %s, from VCN %d and %d on%s" % (
+                *(shown(text) for text in names.split("/")), *lows, ", behind padding" if paddings else ""),
             "end reads %d" % reads,
             (
                 "record 40 size 2048", LINE + lines[0], *lines[1:],
                 "attr 40 %d 16 24 5 name 0 0 value resident %d 0" % (behind, behind + 24)), whole=True)
+
+
+def padded():
+    """Two streams whose entries have their names at 32, behind padding that differs from entry to entry in one, and is
+    the same, the other one's name, in the other: two items, with all their parts."""
+    one, other = "one", "two"
+    entries = [
+        entry_of(OTHER, one, 0, b"\1"), entry_of(THIRD, one, 4, b"\2"), entry_of(FOURTH, one, 9, b"t\0w\0o\0"),
+        entry_of(OTHER, other, 0, b"o\0n\0e\0"), entry_of(THIRD, other, 7, b"o\0n\0e\0")]
+    others = [[stream()], [stream(lowest=4)], [stream(lowest=9)]]
+    first = LINE + "%d size 4000"
+    # the list; an entry with its attribute, three parts and the entry that ends them, and two entries passed over; an
+    # entry with its attribute, two parts, and one entry passed over; the attribute behind the list
+    yield Case(
+        "parts-padded", of(list_of(*entries), AFTER, others=others, size=512),
+        "names at 32, and padding that says otherwise", "end reads %d" % (1 + 2 + 7 + 2 + 2 + 4 + 1 + 1),
+        (
+            "record 40 size 512", first % 3, GOOD, "part 42 56 4 120 0", "part 43 56 9 120 0", first % 2, GOOD,
+            "part 42 56 4 120 0", after(entries)), whole=True)
 
 
 def shown(name):
@@ -695,6 +760,12 @@ def parts_refused_by_entries():
         [to(), later(length=27, units=1, name=b"n")], [stream()])
     yield refused(
         16, "16", "the second entry's name is cut", "stopped 16 reads 5", [to(), later(units=1)], [stream()], cut=2)
+    for number, name, about, last, cut in (
+        (31, "31", "the second entry's name is over its header", later(units=1, name_offset=25), 0),
+        (31, "31-past", "it ends a byte past the entry", later(units=1, length=29, name_offset=28), 0),
+        (16, "16-offset", "it ends a byte past the list, though it would be there at 26",
+         later(units=1, name_offset=40), 1)):
+        yield refused(number, name, about, "stopped %d reads 5" % number, [to(), last], [stream()], cut=cut)
     yield refused(17, "17", "the table lacks the second part's record", "end reads 8", TWO, more=BEHIND)
     yield refused(
         18, "18", "the second part's record has no such attribute", "end reads 9", TWO, [stream(2)], more=BEHIND)
@@ -1007,8 +1078,9 @@ def missing(case, listing):
 
 KINDS = (
     tables, table_limits, walks, walks_cut, used_sizes, used_sizes_looked_up, walks_to_unknown_types, walks_to_lists,
-    walks_along_lists, names, values, looked_up, runs, runs_of_any_size, runs_of_parts, parts, parts_behind, joined,
-    parts_refused, parts_refused_by_entries, most_parts, longest_lines, most_records, most_reads,
+    walks_along_lists, walks_to_names_of_entries, names, values, looked_up, runs, runs_of_any_size, runs_of_parts,
+    parts, parts_behind, joined, padded, parts_refused, parts_refused_by_entries, most_parts, longest_lines,
+    most_records, most_reads,
 )
 
 

@@ -16,7 +16,7 @@ USAGE_SAID = {
 }
 
 # the refusals there are (RULES 19)
-REFUSALS = (*range(1, 31), 34, 35, 44)
+REFUSALS = (*range(1, 32), 34, 35, 44)
 
 
 def test_a_difference_is_noticed(test):
@@ -267,8 +267,9 @@ def test_explanations(test):
     test.same(said[24][1:], b"25: the run's length is 0\n", "")
     test.same(said[26][1:], b"27: the record's used size is above its length\n", "")
     test.same(said[27][1:], b"28: the attribute ends past the record's used size\n", "")
+    test.same(said[30][1:], b"31: the list entry's name is over its header or past its end\n", "")
     test.same(said[REFUSALS.index(44)][1:], b"44: the table would have a record number of 2^48 or more\n", "")
-    for n in (0, 31, 33, 36, 43, 45, 256, 256 + 44, 2 ** 64 - 1):
+    for n in (0, 32, 33, 36, 43, 45, 256, 256 + 44, 2 ** 64 - 1):
         test.same(test.run("explain", str(n)), 64, b"", "nomutanku: there is no refusal %d\n" % n)
 
 

@@ -106,7 +106,11 @@ BAD = (
     # the entry, what refuses, its record and place (none: the entry's), what is read for it
     (later()[:25], 14, None, 0), (later()[:1], 14, None, 0), (later(length=25), 15, None, 0),
     (later(units=1, length=27), 15, None, 0), (later(units=1)[:26], 16, None, 0),
-    (later(units=255, length=600)[:27], 16, None, 0), (later(99), 17, None, 1),
+    (later(units=255, length=600)[:27], 16, None, 0), (later(units=1, length=40, name_offset=36)[:37], 16, None, 0),
+    # 15 before 31, 31 before 16 and before 17
+    (later(units=1, length=27, name_offset=25), 15, None, 0), (later(units=1, name_offset=25), 31, None, 0),
+    (later(units=1, length=29, name_offset=28), 31, None, 0), (later(99, units=2, name_offset=0), 31, None, 0),
+    (later(units=1, length=600, name_offset=25)[:28], 31, None, 0), (later(99), 17, None, 1),
     (later(2 ** 48 - 1), 17, None, 1), (later(43), 18, None, 3), (later(44), 2, (44, 0), 1),
     (later(45), 3, (45, 504), 2), (later(46), 4, (46, 80), 2), (later(47), 5, (47, 80), 2),
     (later(48), 6, (48, 80), 3), (later(49), 19, (49, 80), 3), (later(50), 7, (50, 56), 2),
@@ -189,19 +193,20 @@ BEHIND = (
     ("an unknown type before 20", later(ty=0x11), None, 1), ("the end before 20", later(lowest=0), None, 1),
     ("the end before 20", later(units=1), None, 1), ("the end before 20", later(ty=0x90), None, 1),
     ("14 before 20", later()[:25], 14, 0), ("15 before 20", later(length=25), 15, 0),
-    ("16 before 20", later(units=1)[:26], 16, 0),
+    ("16 before 20", later(units=1)[:26], 16, 0), ("31 before 20", later(units=1, name_offset=25), 31, 0),
 )
 
 
 def test_what_comes_before_20(test):
-    """14, 15, 16 and the end of the parts, at an entry that has no room; and 6 at the first one."""
+    """14, 15, 31, 16 and the end of the parts, at an entry that has no room; and 6 at the first one."""
     for last, number, reads in (
         (entry(0x11, 41, 2), 6, 1), (later(ty=0), 6, 1), (ONE[:25], 14, 0), (later(length=25), 15, 0),
-        (later(units=1)[:26], 16, 0), (ONE, 20, 1), (entry(0x80, 99, 2), 20, 1),
+        (later(units=1)[:26], 16, 0), (later(units=1, name_offset=25), 31, 0), (ONE, 20, 1),
+        (entry(0x80, 99, 2), 20, 1),
     ):
         r, t, rest = listed([last])
         q = Question(WITHIN, r, t, rest=rest, room=0)
-        name = "%d before 20" % number if number < 20 else "20 before the lookup"
+        name = "%d before 20" % number if number != 20 else "20 before the lookup"
         test.case(name, q, [], "refused %d 40 80" % number, reads)
     for count in range(1, 9):
         entries, parts, reads = good(count)
@@ -224,6 +229,11 @@ def named(file=41, lowest=1, name=AB, **given):
 NAMED = [named(41, 3), named(42, LAST)]
 
 
+def padded(padding, file=41, lowest=1, name=AB, **given):
+    """An entry that has its name at 32, behind six bytes of padding."""
+    return named(file, lowest, name, name_offset=32, padding=padding, **given)
+
+
 def test_an_entry_that_ends_the_parts(test):
     """One of another type or another name, or from VCN 0 on; what continues them behind it is no part."""
     for name, last in (
@@ -240,25 +250,33 @@ def test_an_entry_that_ends_the_parts(test):
         ("one unit longer ends", named(name=AB + b"c\0")), ("one unit longer ends", named(name=AB + b"\0\0")),
         ("no name ends", named(name=b"")), ("no name ends", named(name=b"", length=30)),
         ("one unit shorter ends", later(units=1, name=AB, length=30)[:30]), ("another type ends", named(ty=0x90)),
+        ("the same bytes at 26 end", padded(AB, name=b"a\0c\0")),
+        ("the same bytes at 26 end", named(name=b"\0b\0\0", name_offset=27, padding=b"a")),
+        ("no name ends", named(name=b"", name_offset=0)), ("no name ends", named(name=b"", name_offset=255)),
     ):
         collected(test, name, [*NAMED, last, *NAMED], [PART, OTHER], "whole", N + M + 1)
 
 
 def test_an_entry_that_goes_on(test):
-    """Of the same type and name, and from a VCN on that is not 0: whatever its instance, its filling, the place that
-    it tells for its name, and the VCN of its attribute are."""
+    """Of the same type and name, and from a VCN on that is not 0: whatever its instance, its filling, its name's place
+    and what is in front of it, and the VCN of its attribute are."""
     third = Part(61, 80, 7, 144, 8, 5, 1)
     for first in ([], [ONE], [ONE, TWO]):
         parts, reads = [PART, OTHER][:len(first)], sum((N, M)[:len(first)])
         collected(
             test, "another instance goes on", [*first, later(61, 3), ONE], [*parts, third, PART], "whole",
             reads + 3 + N)
-    for last in (
-        named(length=31), named(length=38), named(name_offset=0), named(name_offset=28), named(sequence=9),
+    for name, last in (
+        ("filling goes on", named(length=31)), ("filling goes on", named(length=38)),
+        ("padding goes on", named(name_offset=27)), ("padding goes on", padded(b"b\0a\0")),
+        ("padding goes on", padded(b"q", length=50)), ("filling goes on", named(sequence=9)),
     ):
         collected(
-            test, "filling goes on", [*NAMED, last, NAMED[0]], [PART, OTHER, PART._replace(listed=1), PART], "whole",
-            N + M + 2 * N)
+            test, name, [*NAMED, last, NAMED[0]], [PART, OTHER, PART._replace(listed=1), PART], "whole", N + M + 2 * N)
+    for offset in (0, 25, 27, 255):
+        collected(
+            test, "no name, any offset goes on", [ONE, later(name_offset=offset), TWO],
+            [PART, PART._replace(listed=1), OTHER], "whole", 2 * N + M)
     for lowest in (1, 2, 2 ** 32, 2 ** 63 - 1, 2 ** 63, LAST):
         collected(
             test, "VCN above 0 goes on", [NAMED[1], named(lowest=lowest)], [OTHER, PART._replace(listed=lowest)],
@@ -270,8 +288,30 @@ def test_an_entry_that_goes_on(test):
         test, "VCNs in any order", [TWO, ONE, TWO, ONE, ONE], [OTHER, PART, OTHER, PART, PART], "whole", 3 * N + 2 * M)
 
 
+def test_names_behind_padding(test):
+    """A stream whose entries have their names at 32, each behind other padding, is one item; of two streams whose names
+    differ there, behind the same padding, each has its own parts."""
+    r, t, _ = listed([padded(b"1", lowest=0), padded(b"2", 42), padded(AB, 61, instance=3)])
+    parts = [PART._replace(listed=0), OTHER._replace(listed=1), Part(61, 80, 7, 144, 8, 5, 1)]
+    test.put_literal_question("\n".join((
+        "item 41 56 128 72 0 2 rest 1 80 188 left 192 1 116 188 1 128 2 610062 reads 3",
+        said(parts, "whole", N + M + 3),
+        "item 40 192 48 24 1 5 rest 0 0 0 left 216 0 0 0 1 128 2 610062 reads 3", said([], "whole", 0),
+        "end left 216 0 0 0 1 128 2 610062 reads 0")), Question(WALK, r, t))
+    other = b"a\0c\0"
+    r, t, _ = listed([padded(AB), padded(AB, 42, name=other), padded(AB, lowest=4, name=other)])
+    test.put_literal_question("\n".join((
+        "item 41 56 128 72 0 2 rest 1 80 188 left 192 1 116 188 1 128 2 610062 reads 3",
+        said([PART._replace(listed=1)], "whole", N + 1),
+        "item 42 80 128 64 0 2 rest 1 116 188 left 192 1 152 188 1 128 2 610063 reads 3",
+        said([OTHER._replace(listed=1), PART._replace(listed=4)], "whole", M + N),
+        "item 40 192 48 24 1 5 rest 0 0 0 left 216 0 0 0 1 128 2 610063 reads 2", said([], "whole", 0),
+        "end left 216 0 0 0 1 128 2 610063 reads 0")), Question(WALK, r, t))
+    test.classes["a stream behind padding"] += 2
+
+
 def test_the_longest_name(test):
-    """255 units are compared, to the last byte."""
+    """255 units are compared, to the last byte, at 26 and as far behind as a name can begin."""
     longest = bytes(k % 255 + 1 for k in range(510))
     files = {n: record(2048, placed(0x80, 2)) for n in (41, 42)}
     parts = [Part(n, 56, 0, 120, 0, 4000, 1) for n in (41, 42)]
@@ -280,10 +320,11 @@ def test_the_longest_name(test):
         ("255 units, the first byte different", b"\0" + longest[1:], 1), ("254 units behind 255", longest[:-2], 1),
         ("no name behind 255 units", b"", 1),
     ):
-        entries = named(41, name=longest), named(42, name=other)
-        r = record(2048, list_of(*entries))
-        q = Question(COLLECT, r, table({40: r, **files}), rest=Rest(True, 80, 80 + sum(map(len, entries))))
-        test.case(name, q, parts[:count], "whole", 4 if count == 2 else 3)
+        for offset in (26, 255):
+            entries = named(41, name=longest), named(42, name=other, name_offset=offset)
+            r = record(2048, list_of(*entries))
+            q = Question(COLLECT, r, table({40: r, **files}), rest=Rest(True, 80, 80 + sum(map(len, entries))))
+            test.case(name, q, parts[:count], "whole", 4 if count == 2 else 3)
 
 
 def test_a_list_that_ends(test):
@@ -607,10 +648,20 @@ def with_own(base):
     return base[:136] + run_for_rust(208)[56:128] + base[208:]
 
 
-# What joins entries: the number, the base record, the others; the items, each with its record, offset and parts (None:
-# it tells no list), and the refusals by 6, here and in the Rust.
-ONE_OF_ONE = (41, 56, [(41, 56)])
-JOINED = (
+def entry_for_rust(length, units, offset, left=None):
+    """U of that page, in a list of fewer bytes where that is told."""
+    text = bytearray(list_for_rust(112, (0x80, 41)))
+    text[72] = length if left is None else left
+    text[84], text[86], text[87] = length, units, offset
+    return bytes(text)
+
+
+# What joins entries, and where their names stand: the number, the base record, the others; the items, each with its
+# record, offset and parts (None: it tells no list), and the refusals, here and in the Rust. 31 and 16 come again and
+# again.
+ONE_OF_ONE, WITHOUT_PARTS = (41, 56, [(41, 56)]), (41, 56, None)
+RESIDENT = {41: zero_record(112, (56, resident(0x80)), (80, END))}
+LISTED = (
     (
         21, list_for_rust(160, (0x80, 41), (0x11, 41), (0x80, 41)), {41: run_for_rust(160)},
         [ONE_OF_ONE, (6, 40, 106)], [(41, 56, [(41, 56), "refused 6 40 106"]), (6, 40, 106)]),
@@ -629,7 +680,7 @@ JOINED = (
     # what stays is the same in the Rust
     (
         31, list_for_rust(112, (0x80, 41)), {41: zero_record(
-            112, (56, struct.pack("<IIBBH", 0x80, 24, 0, 1, 22)), (80, END))}, [(41, 56, None)], None),
+            112, (56, struct.pack("<IIBBH", 0x80, 24, 0, 1, 22)), (80, END))}, [WITHOUT_PARTS], None),
     (31, list_for_rust(128, (0x80, 41, ("lowest", 1))), {41: run_for_rust(128)}, [ONE_OF_ONE], None),
     (
         32, with_own(list_for_rust(208, (0x80, 40), (0x80, 41))), {41: run_for_rust(208)},
@@ -650,6 +701,12 @@ JOINED = (
         34, list_for_rust(160, (0x80, 41), (0x10, 42), (0x80, 41)),
         {41: run_for_rust(160), 42: zero_record(160, (56, resident(0x10)), (80, END))},
         [ONE_OF_ONE, (42, 56, None), ONE_OF_ONE], None),
+    # where an entry has its name
+    *((54, entry_for_rust(28, 1, at), RESIDENT, 10 * [(31, 40, 80)], [WITHOUT_PARTS]) for at in (25, 27)),
+    (54, entry_for_rust(28, 1, 25, 26), RESIDENT, 10 * [(31, 40, 80)], 10 * [(16, 40, 80)]),
+    (55, entry_for_rust(29, 1, 27, 28), RESIDENT, 10 * [(16, 40, 80)], []),
+    # a name of no units is the same in both, wherever it is said to stand
+    (54, entry_for_rust(26, 0, 0), RESIDENT, [WITHOUT_PARTS], None),
 )
 
 
@@ -667,13 +724,13 @@ def walked(base, lent):
     return told
 
 
-def test_what_joins_entries_on_the_differences_page(test):
-    """Our side of it and the Rust's, both of the second reading; tests/compare_rust asks the Rust for these tables."""
-    for number, base, others, ours, theirs in JOINED:
-        lent = table({40: base, **others})
-        with reading.joined_by_instance():
+def test_entries_on_the_differences_page(test):
+    """Our side and the Rust's, both of the second reading; tests/compare_rust asks the Rust for these tables."""
+    for number, base, others, ours, theirs in LISTED:
+        lent, theirs = table({40: base, **others}), ours if theirs is None else theirs
+        with reading.as_the_rust_lists():
             before = walked(base, lent)
-        assert walked(base, lent) == ours and before == (theirs or ours), (number, walked(base, lent), before)
+        assert walked(base, lent) == ours and before == theirs, (number, walked(base, lent), before)
         test.put(WALK, base, lent, on=9)
         test.classes["no. %d of the differences" % number] += 1
 
@@ -686,17 +743,17 @@ def test_the_answers_of_the_rust(test):
     text = rust.kept("rust_parts.txt")
     told = rust.replayed_parts(test, text)
     test.stop_at(told.different, told.cases)
-    assert told.cases >= 100 and told.parts >= 400 and told.joined * 2 < told.cases
-    # each way in which parts can end where a walk asks for them; 7, 27 and 28 are not the Rust's
+    assert told.cases >= 100 and told.parts >= 400 and 0 < told.otherwise * 2 < told.cases
+    # each way in which parts can end where a walk asks for them; 7, 27, 28 and 31 are not the Rust's
     values = [line.split(" value ")[1] for line in text.split("\n") if " value parts " in line]
     ways = {int(value.split(" refused ")[-1].split(" ")[0]) for value in values if " refused " in value}
-    assert ways == set(REFUSALS) - {7, 20, 27, 28}, ways
+    assert ways == set(REFUSALS) - {7, 20, 27, 28, 31}, ways
     for start in ("attr ", "part ", "refused "):
         for changed in rust.changed_answers(text, 4, start):
             assert len(rust.replayed_parts(test, changed).different) == 1
     print("the Rust's answers to %d tables, %d lines, %d parts among them, replayed" % (
         told.cases, told.lines, told.parts))
-    print("in %d of them type and name join otherwise" % told.joined)
+    print("%d of them are listed otherwise by the rules" % told.otherwise)
 
 
 # The classes of cases by hand that have to be there, besides each refusal in the first and in a later part.
@@ -708,7 +765,8 @@ CLASSES = (
     "another type ends", "the marker's type ends", "another type ends, for the base record", "unknown type first",
     "unknown type ends", "VCN 0 ends", "VCN 0 first", "VCN above 0 goes on", "VCNs in any order",
     "a name ends those of none", "no name ends", "one byte different ends", "one unit shorter ends",
-    "one unit longer ends", "filling goes on", "255 units go on", "255 units, the last byte different",
+    "one unit longer ends", "the same bytes at 26 end", "filling goes on", "padding goes on",
+    "no name, any offset goes on", "a stream behind padding", "255 units go on", "255 units, the last byte different",
     "255 units, the first byte different", "254 units behind 255", "no name behind 255 units",
     "base-record entry of VCN 0", "an attribute's own name is not compared", "begins in the base record",
     "entry's VCN is another, behind another", "entry's VCN is the attribute's, behind another",
@@ -716,10 +774,11 @@ CLASSES = (
     "22 at the opening, from > to", "22 at the opening, past the record", "21 at the opening", "1 at the opening",
     "2 at the opening", "27 at the opening", "inside another attribute", "at the record's end", "under 26 bytes",
     "a used size at the part's end and above", "a used size inside the part", "base-record entry, near its used size",
-    *("no. %d of the differences" % number for number in (*range(20, 25), *range(29, 35))),
+    *("no. %d of the differences" % number for number in (*range(20, 25), *range(29, 35), *range(54, 56))),
     *("%d in the %s part" % (number, part) for number in REFUSALS if number != 20 for part in ("first", "later")),
     "room 0", "room enough", "room one short", "20 before the lookup", "6 before 20", "14 before 20", "15 before 20",
-    "16 before 20", "the end before 20", "an unknown type before 20", "157 parts, less room", "157 parts, room 157",
+    "16 before 20", "31 before 20", "the end before 20", "an unknown type before 20", "157 parts, less room",
+    "157 parts, room 157",
 )
 
 

@@ -4,7 +4,7 @@ import random
 import sys
 
 from lib import suite, volumes
-from lib.building import record
+from lib.building import ENTRY_BYTES, record
 from lib.damaging import places
 from lib.on_parts import REFUSALS, WALK, Parts, Question
 from lib.random_tables import chained_table, mixed, streams_table
@@ -18,14 +18,28 @@ DAMAGED, RANDOM, STREAMS, CHAINED, LARGE = 5_000, 5_000, 12_000, 3_000, 40
 # A table of more bytes is damaged only one time in sixteen: it tells little more.
 SMALL = 12_000
 
-# How often parts end by what and where: each at least so often.
-OFTEN = 20
+# How often parts end by what and where: each at least so often. And how many streams of several parts have their first
+# name behind padding.
+OFTEN, OFTEN_PADDED = 20, 500
+
+# where an entry tells its name's units and offset (RULES 9.1)
+UNITS_AT, OFFSET_AT = 6, 7
 
 
 def near(rest, chance):
     """Another place near it: a list that begins elsewhere, and ends sooner."""
     start = max(0, rest.start + chance.choice((0, 0, 1, 26, 32, -26)))
     return rest._replace(start=start, end=max(0, rest.end - chance.choice((0, 1, 8, 26, 27))))
+
+
+def padded_streams(r, lines):
+    """How many items of a walk have several parts and a name that does not stand straight behind its entry's header."""
+    count = 0
+    for line, parts_line in zip(lines, lines[1:]):
+        if " rest 1 " in line and int(parts_line.split(" ")[1]) > 1:
+            start = int(line.split(" ")[9])
+            count += r[start + UNITS_AT] > 0 and r[start + OFFSET_AT] != ENTRY_BYTES
+    return count
 
 
 def probe(test, text, chance):
@@ -35,9 +49,11 @@ def probe(test, text, chance):
     if chance.random() < 0.05:
         number = chance.choice((0, 41, 2 ** 48, number + 1))
     q = Question(WALK, r, text, number, on=chance.choice((0, 3, 12)))
-    lines = test.expected(q)
-    test.ask(q, lines)
-    rests = [Rest(True, *map(int, line.split(" ")[9:11])) for line in lines.split("\n") if " rest 1 " in line]
+    answer = test.expected(q)
+    test.ask(q, answer)
+    lines = answer.split("\n")
+    test.classes["a stream behind padding"] += padded_streams(r, lines)
+    rests = [Rest(True, *map(int, line.split(" ")[9:11])) for line in lines if " rest 1 " in line]
     for rest in chance.sample(rests, min(2, len(rests))):
         if chance.random() < 0.6:
             rest = near(rest, chance)
@@ -98,6 +114,10 @@ def ended(test):
     # 1 at the opening is of lent records alone, which parts.py has
     ways += [("opening", end) for end in (2, 21, 22, 27)]
     missing = ["%s %s" % way for way in ways if test.endings[way] < OFTEN]
+    padded = test.classes["a stream behind padding"]
+    print("streams of several parts behind padding: %d" % padded)
+    if padded < OFTEN_PADDED:
+        missing.append("of streams behind padding")
     if missing:
         sys.exit("parts that hardly ever ended so: %s" % ", ".join(missing))
 

@@ -1,6 +1,7 @@
 """Holds the records that a record's lists refer to, as built, to cases that were written by hand and to the second
 reading of the rules, on both sides of each limit. Every question goes to the program `ask`: the numbers told, the end
 or the refusal that stopped the walk, and the numbers in rising order. Fails at any difference."""
+import itertools
 import struct
 
 from lib import suite
@@ -40,6 +41,7 @@ def sample():
         Question(record(512)), Question(record(512, list_to(43, 41, 40, 43, 42))), Question(record(512, broken)),
         Question(record(512, list_to(41), non_resident(LIST))), Question(record(512, list_to(41), used=AT)),
         Question(record(512, magic=b"BAAD")), Question(record(512, list_to(3, 1, 2)), NUMBER_END),
+        Question(record(512, list_of(*(entry(0x80, 42, units=1, name_offset=at) for at in (32, 0))))),
     ]
 
 
@@ -168,16 +170,40 @@ def test_short_entries(test):
 
 
 def test_cut_names(test):
-    """16: the list ends inside an entry's name."""
-    for units in (1, 2, 100):
-        for cut in sorted({1, 2, 2 * units - 1, 2 * units}):
-            made = record(1024, list_of(entry(0x80, 41), entry(0x80, 42, units=units), cut=cut))
+    """16: the list ends in front of an entry's name, wherever it stands, or inside it."""
+    for units, offset in itertools.product((1, 2, 100), (26, 32, 255)):
+        last, named = entry(0x80, 42, units=units, name_offset=offset), offset + 2 * units - ENTRY_BYTES
+        for cut in sorted({1, 2, 2 * units - 1, 2 * units, named}):
+            made = record(1024, list_of(entry(0x80, 41), last, cut=cut), list_to(43))
             test.put_literal(made, [41], (16, ENTRIES + ENTRY_BYTES))
-        made = record(1024, list_of(entry(0x80, 41), entry(0x80, 42, units=units), cut=2 * units + 1))
+        made = record(1024, list_of(entry(0x80, 41), last, cut=named + 1))
         test.put_literal(made, [41], (14, ENTRIES + ENTRY_BYTES))
+        # an entry that is longer than the list, with its name all there, ends it, and nothing else
+        longer = entry(0x80, 42, units=units, name_offset=offset, length=offset + 2 * units + 8)
+        test.put_literal(record(1024, list_of(entry(0x80, 41), longer, cut=8), list_to(43)), [41, 43])
+        test.put_literal(record(1024, list_of(entry(0x80, 41), longer, cut=9)), [41], (16, ENTRIES + ENTRY_BYTES))
     # 14, 15 and 16 in this order
     both = list_of(entry(0x80, 41), entry(0x80, 42, length=27, units=9), cut=18)
     test.put_literal(record(512, both), [41], (15, ENTRIES + ENTRY_BYTES))
+
+
+def test_names_outside_their_entries(test):
+    """31: a name over its entry's header, or past its end; the lists behind it are not walked. 15 comes before it, and
+    it before 16. An empty name may be anywhere."""
+    for units, offset in itertools.product((1, 2, 100, 255), (0, 1, 25)):
+        over = entry(0x80, 42, units=units, name_offset=offset)
+        test.put_literal(record(1024, list_of(entry(0x80, 41), over), list_to(43)), [41], (31, ENTRIES + ENTRY_BYTES))
+        test.put_literal(record(1024, list_of(over, entry(0x80, 41), cut=27)), [], (31, ENTRIES))
+    for units, offset in itertools.product((1, 2, 100), (26, 27, 32, 255)):
+        last = {"units": units, "name_offset": offset}
+        end = offset + 2 * units
+        test.put_literal(record(1024, list_of(entry(0x80, 41), entry(0x80, 42, **last)), list_to(43)), [41, 42, 43])
+        past = entry(0x80, 42, length=end - 1, **last)
+        made = record(1024, list_of(entry(0x80, 41), past, cut=1), list_to(43))
+        test.put_literal(made, [41], (15 if offset == 26 else 31, ENTRIES + ENTRY_BYTES))
+    for offset in (0, 25, 27, 255):
+        empty = entry(0x80, 42, name_offset=offset)
+        test.put_literal(record(1024, list_of(entry(0x80, 41), empty), list_to(43)), [41, 42, 43])
 
 
 # What stops the walk at an attribute.

@@ -23,7 +23,10 @@ def sample():
     """Questions of each kind, each refusal and each other answer. rt ci runs the program on them."""
     t = table([(40, 44), (41, 108)], 172, base=0)
     base, other, bad = t[44:108], t[:108] + b"BAAD" + t[112:], t[:20] + b"\x29" + t[21:]
-    entries = (entry(40, 40, 3), entry(32, 40, 0), entry(25, 26, 0), entry(28, 27, 1), entry(26, 28, 1), b"")
+    entries = (
+        entry(40, 40, 3), entry(32, 40, 0), entry(25, 26, 0), entry(28, 27, 1), entry(26, 28, 1), b"",
+        entry(40, 40, 3, 34), entry(40, 40, 3, 35), entry(40, 60, 3, 35), entry(26, 26, 0, 255),
+    )
     lent = (
         (base, t, 40), (base, t, 41), (base, t, 42), (base, other, 41), (base, bad, 41), (base[:56], t, 41),
         (b"BAAD" + base[4:], t, 41), (with_used(base, 65), t, 41), (base, t[:108] + with_used(base, 65), 41),
@@ -50,21 +53,58 @@ def test_a_question_that_is_too_long(test):
 def test_both_sides_of_each_line_in_an_entry(test):
     """The answers on both sides of each line that the rules draw in an entry, by hand."""
     # a name of one unit in an entry of 28 and of 27 bytes
-    test.put_literal("entry 128 28 1 0 41 3 " + named(bytes((186, 193))), STEP, entry(28, 28, 1), place=200)
+    test.put_literal("entry 128 28 1 26 0 41 3 " + named(bytes((186, 193))), STEP, entry(28, 28, 1), place=200)
     test.put_literal("refused 15 40 200 " + named(b""), STEP, entry(28, 27, 1), place=200)
     # an entry that is longer than what is left
     test.put_literal("end " + named(b""), STEP, entry(32, 40, 0), place=200)
-    test.put_literal("entry 128 40 0 0 41 3 " + named(b""), STEP, entry(40, 40, 0), place=200)
+    test.put_literal("entry 128 40 0 26 0 41 3 " + named(b""), STEP, entry(40, 40, 0), place=200)
     # a name that is not all there
     test.put_literal("refused 16 40 200 " + named(b""), STEP, entry(26, 28, 1), place=200)
     # nothing left, and fewer than 26 bytes
     test.put_literal("end", HEADER, b"", place=200)
     test.put_literal("refused 14 40 200", HEADER, entry(1, 28, 1), place=200)
     test.put_literal("refused 14 40 200", HEADER, entry(25, 28, 1), place=200)
-    test.put_literal("entry 128 26 0 0 41 3", HEADER, entry(26, 26, 0), place=200)
+    test.put_literal("entry 128 26 0 26 0 41 3", HEADER, entry(26, 26, 0), place=200)
     # a reference's upper 16 bits
     high = entry(26, 26, 0, reference=0xFFFF_0000_0000_0029)
-    test.put_literal("entry 128 26 0 0 41 3", HEADER, high, place=200)
+    test.put_literal("entry 128 26 0 26 0 41 3", HEADER, high, place=200)
+
+
+# The rest of a list: the bytes left, the entry's length, its name's units and offset; the answer to it, and the name.
+# Each byte behind the header tells its place: 186 stands at 26, 193 at 27, 200 at 28.
+NAMES = (
+    # a name over the header, and straight behind it
+    ((28, 28, 1, 25), "refused 31 40 200", b""), ((28, 28, 1, 0), "refused 31 40 200", b""),
+    ((765, 765, 255, 25), "refused 31 40 200", b""), ((28, 28, 1, 26), "entry 128 28 1 26 0 41 3", bytes((186, 193))),
+    # one that ends with its entry, and one that ends a byte past it, where nothing more is left and where all of it is
+    ((30, 30, 1, 28), "entry 128 30 1 28 0 41 3", bytes((200, 207))), ((30, 30, 1, 29), "refused 31 40 200", b""),
+    ((40, 30, 1, 29), "refused 31 40 200", b""), ((40, 30, 1, 28), "entry 128 30 1 28 0 41 3", bytes((200, 207))),
+    # the last place for the longest name, and one byte short of it
+    ((765, 764, 255, 255), "refused 31 40 200", b""), ((764, 765, 255, 255), "refused 16 40 200", b""),
+    ((765, 765, 255, 255), "entry 128 765 255 255 0 41 3", PATTERN[255:765]),
+    # an empty one, wherever it is said to stand
+    *(((26, 26, 0, at), "entry 128 26 0 %d 0 41 3" % at, b"") for at in (0, 25, 26, 27, 255)),
+    *(((26, 27, 0, at), "end", b"") for at in (0, 25, 26, 27, 255)),
+    # 14 before 31, 15 before 31, and 31 before 16
+    ((25, 28, 1, 25), "refused 14 40 200", b""), ((28, 27, 1, 25), "refused 15 40 200", b""),
+    ((28, 27, 1, 27), "refused 15 40 200", b""), ((26, 28, 1, 25), "refused 31 40 200", b""),
+    ((26, 28, 1, 27), "refused 31 40 200", b""),
+    # a name that ends with what is left, and one that ends a byte past it: the entry is longer, and its name would be
+    # all there at 26; and with nothing behind it, where both are given
+    ((32, 34, 1, 30), "end", b""), ((32, 34, 1, 31), "refused 16 40 200", b""),
+    ((32, 34, 1, 32), "refused 16 40 200", b""), ((32, 34, 1, 33), "refused 31 40 200", b""),
+    ((33, 34, 1, 31), "end", b""), ((34, 34, 1, 31), "entry 128 34 1 31 0 41 3", bytes((221, 228))),
+)
+
+
+def test_both_sides_of_each_line_of_a_name(test):
+    """31, 16 and the bytes of a name, which stands where its entry says, by hand."""
+    for given, answer, name in NAMES:
+        test.put_literal(answer, HEADER, entry(*given), place=200)
+        test.put_literal("%s %s" % (answer, named(name)), STEP, entry(*given), place=200)
+    # no. 53 of the differences
+    padded = entry(29, 29, 1, 27, instance=0)[:26] + b"\0A\0"
+    test.put_literal("entry 128 29 1 27 0 41 0 " + named(b"A\0"), STEP, padded, place=80)
 
 
 def test_both_sides_of_each_line_in_a_table(test):
@@ -141,25 +181,32 @@ def test_name_lengths(test):
                     test.put_entry(entry(left, length, units), place=left)
 
 
+def test_name_offsets(test):
+    """31 and 16: each name offset, in entries and lists that just hold the name there, or at 26, or do not."""
+    for offset, units in itertools.product(range(256), (0, 1, 3, 255)):
+        end, least = offset + 2 * units, 26 + 2 * units
+        for length in sorted({least - 1, least, end - 1, end, end + 1, 766}):
+            for left in sorted({least, end - 1, end, length - 1, length}):
+                if length >= 0 and left >= 0:
+                    test.put_entry(entry(left, length, units, offset), place=offset)
+
+
 def test_name_bytes(test):
-    """A name is handed out byte for byte, with zeros behind it; the name offset is not consulted."""
+    """A name is handed out byte for byte, with zeros behind it, wherever it stands."""
     # zeros in a name, at its end and nothing else; behind a name nothing is zero, and must not be handed out
-    for units in (0, 1, 2, 7, 254, 255):
+    for units, offset in itertools.product((0, 1, 2, 7, 254, 255), (26, 27, 32, 255)):
         n = 2 * units
-        rest = bytearray(entry(600, 600, units))
+        rest = bytearray(entry(800, 800, units, offset))
         for zeros in {(0, n), (0, n // 2), (n // 2, n), (n - 1, n), (0, 1)}:
             name = bytearray(rest)
             for k in range(*zeros):
-                name[26 + k] = 0
+                name[offset + k] = 0
             test.put_entry(bytes(name))
         # each byte of the name, and those on both sides of it
         for k in range(-1, n + 2):
             name = bytearray(rest)
-            name[26 + k] ^= 0xA5
+            name[offset + k] ^= 0xA5
             test.put(STEP, bytes(name))
-    # the name offset is not consulted
-    for offset in range(256):
-        test.put_entry(entry(60, 40, 3, name_offset=offset))
 
 
 def test_entry_fields(test):
@@ -177,7 +224,10 @@ def test_entry_fields(test):
 
 def test_entry_places(test):
     """A refusal tells the number and the place that were handed in, whatever they are; an entry tells neither."""
-    for rest in (b"", entry(25, 26, 0), entry(28, 27, 1), entry(26, 28, 1), entry(32, 40, 0), entry(40, 40, 1)):
+    for rest in (
+        b"", entry(25, 26, 0), entry(28, 27, 1), entry(26, 28, 1), entry(32, 40, 0), entry(40, 40, 1),
+        entry(28, 28, 1, 25), entry(32, 34, 1, 31), entry(40, 40, 1, 38),
+    ):
         for value in (0, 1, 41, *FAR):
             test.put_entry(rest, place=value)
             test.put_entry(rest, number=value)
@@ -431,7 +481,8 @@ def test_lookups_among_few_and_many_rows(test):
 
 
 NEEDED = {
-    "list::header": (14, 15, 16), "list::step": (14, 15, 16), "Table::check": (21,), "File::of_bytes": (21, 1, 2, 27),
+    "list::header": (14, 15, 31, 16), "list::step": (14, 15, 31, 16), "Table::check": (21,),
+    "File::of_bytes": (21, 1, 2, 27),
     "File::lookup": (21, 1, 2, 27, 17, "2 of the record looked up", "27 of the record looked up"),
 }
 

@@ -123,10 +123,13 @@ def probe(test, t, chance):
 def put_random_entry(test, chance):
     """The rest of a list, mostly with an entry that suits it."""
     units = chance.choice((0, 0, 1, 2, 5, 254, 255, chance.randrange(256)))
-    end = 26 + 2 * units
+    offset = chance.choice((26, 26, 27, 32, 40, 255, chance.randrange(256)))
+    end = max(26, offset) + 2 * units
     length = chance.choice((end, end, end, end + chance.randrange(9), end - 1, end // 2, 40, chance.randrange(65536)))
     left = chance.choice((length, length, length + chance.randrange(40), length - 1, end, end - 1, 26, 25))
-    rest = bytearray(entry(min(left, 4096), length, units, reference=chance.randrange(2 ** 64)))
+    # one that the length would let through
+    offset = chance.choice((offset, offset, offset, offset, 25, 26 + 2 * units)) % 256
+    rest = bytearray(entry(min(left, 4096), length, units, offset, reference=chance.randrange(2 ** 64)))
     for _ in range(chance.choice((0, 0, 1, 3))):
         if rest:
             rest[chance.randrange(min(len(rest), 60))] = chance.choice((0, 1, 26, 255, chance.randrange(256)))
@@ -146,8 +149,8 @@ def test_damaged_and_random_tables(test):
 
 
 def ended(test):
-    """Each call was asked."""
-    test.finish()
+    """Each call was asked, and each refusal of an entry given."""
+    test.finish("%s %d" % (call, number) for call in ("list::header", "list::step") for number in (14, 15, 31, 16))
 
 
 main = suite.of(Tables, ended)

@@ -2,7 +2,7 @@
 //!
 //!     bench [--once | --ours] VOLUMES [NAME ..]
 //!
-//! VOLUMES is a folder with tables of real volumes (*.tab). A NAME is one of them in which the Rust joins entries
+//! VOLUMES is a folder with tables of real volumes (*.tab). A NAME is one of them whose entries the Rust reads or joins
 //! otherwise (bench/joined tells them): it is timed for ours alone.
 //!
 //! With --once each table is listed once by both, for an instruction counter; with --ours by ours alone, in 20,000
@@ -38,17 +38,18 @@ struct Case {
     runs: f64,
 }
 
-/// A table that is not timed beside the Rust, and why. One that the Rust joins otherwise tells no run either.
+/// A table that is not timed beside the Rust, and why. One whose entries the Rust reads or joins otherwise tells no run
+/// either.
 struct Left {
     name: String,
     table: Vec<u8>,
     why: &'static str,
 }
 
-/// Why a table is left that 27 or 28 decides, or in which type and name tell other streams than type and instance: it
-/// is timed for ours alone.
+/// Why a table is left that 27 or 28 decides, or whose entries the Rust reads or joins otherwise: it is timed for ours
+/// alone.
 const DECIDED: &str = "27, 28";
-const JOINED: &str = "joined";
+const OTHERWISE: &str = "padded or joined";
 
 /// The middle times of one listing: ours, the Rust's, and the Rust's from the table's bytes on.
 #[derive(Clone, Copy)]
@@ -134,7 +135,7 @@ fn real(folder: &str, joined: &[String], out: &mut [u8], room: &mut Room) -> (Ve
         let given = if joined.iter().any(|other| *other == *name) {
             let end = ours::list(&table, out);
             let table = without_runs(&table, &apart(&out[..end]).0);
-            Err(Left { name: name.into(), table, why: JOINED })
+            Err(Left { name: name.into(), table, why: OTHERWISE })
         } else {
             case(&name, table, out, room)
         };
@@ -142,7 +143,7 @@ fn real(folder: &str, joined: &[String], out: &mut [u8], room: &mut Room) -> (Ve
             Ok(c) => cases.push(c),
             Err(table) => {
                 *left.entry(table.why).or_insert(0) += 1;
-                alone.extend([DECIDED, JOINED].contains(&table.why).then_some(table));
+                alone.extend([DECIDED, OTHERWISE].contains(&table.why).then_some(table));
             }
         }
     }

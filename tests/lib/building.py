@@ -21,8 +21,8 @@ FIRST, USED_AT = 56, 24
 BLOCK, PAIR = 512, 2
 
 # What stands in a resident attribute behind its value, in one that is not resident behind its header, in an entry
-# behind its name, and in a gap of a table.
-RESIDENT_FILL, RUNS_FILL, ENTRY_FILL, GAP_FILL = b"\xAA", b"\xBB", b"\xCC", b"\xEE"
+# behind its name and in front of it, and in a gap of a table.
+RESIDENT_FILL, RUNS_FILL, ENTRY_FILL, PADDING, GAP_FILL = b"\xAA", b"\xBB", b"\xCC", b"\xDD", b"\xEE"
 
 # Bytes of an attribute's header and of each form's full header, of an entry's header, of a table's numbers and one
 # row.
@@ -68,13 +68,23 @@ def entry_head(ty, length, units, lowest, reference, instance, name_offset=ENTRY
     return struct.pack("<IHBBQQH", ty, length, units, name_offset, lowest, reference, instance)
 
 
+def name_start(units, name_offset):
+    """Where a name is put in an entry: an offset over the header leaves it behind that, and an empty one has no padding
+    in front of it."""
+    return max(ENTRY_BYTES, name_offset) if units else ENTRY_BYTES
+
+
 def entry(
-        ty, file, instance=0, length=None, units=0, lowest=0, sequence=7, name=None, name_offset=ENTRY_BYTES):
-    """An entry of a list that names a record. Behind its header stand its name and then filling, up to its length."""
-    end = ENTRY_BYTES + 2 * units
+        ty, file, instance=0, length=None, units=0, lowest=0, sequence=7, name=None, name_offset=ENTRY_BYTES,
+        padding=PADDING):
+    """An entry of a list that names a record. Behind its header stand padding up to its name, then its name and then
+    filling, up to its length."""
+    start = name_start(units, name_offset)
+    end = start + 2 * units
     length = end if length is None else length
     text = entry_head(ty, length, units, lowest, file % 2 ** 48 + (sequence << 48), instance, name_offset)
-    return text + (b"n\0" * units if name is None else name) + ENTRY_FILL * max(0, length - end)
+    text += (padding * start)[:start - ENTRY_BYTES] + (b"n\0" * units if name is None else name)
+    return text + ENTRY_FILL * max(0, length - end)
 
 
 def rest_of_list(left, length, units, name_offset=ENTRY_BYTES, ty=128, lowest=0, reference=41, instance=3):

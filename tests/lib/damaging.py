@@ -79,7 +79,7 @@ def hurt_attribute(r, a, chance):
 
 def hurt_entry(r, at, numbers, chance):
     """One field of an entry, or a byte of it."""
-    what = chance.randrange(11)
+    what = chance.randrange(12)
     if what == 0:
         struct.pack_into("<I", r, at, chance.choice(TYPES))
     elif what in (1, 2):
@@ -98,8 +98,12 @@ def hurt_entry(r, at, numbers, chance):
             "<H", r, at + 24, chance.choice((0, 1, 2, 3, 4, struct.unpack_from("<H", r, at + 24)[0] ^ 1)))
     elif what == 8:
         struct.pack_into("<Q", r, at + 8, chance.choice((0, 0, 1, 5, 2 ** 63, 2 ** 64 - 1)))
-    elif what == 9 and r[at + 6] and at + ENTRY_BYTES + 2 * r[at + 6] <= len(r):
-        r[at + ENTRY_BYTES + chance.randrange(2 * r[at + 6])] ^= 1 << chance.randrange(8)
+    elif what == 9 and r[at + 6] and at + r[at + 7] + 2 * r[at + 6] <= len(r):
+        r[at + r[at + 7] + chance.randrange(2 * r[at + 6])] ^= 1 << chance.randrange(8)
+    elif what == 10:
+        # the last place for its name in the entry, and one byte further on
+        last = struct.unpack_from("<H", r, at + 4)[0] - 2 * r[at + 6]
+        r[at + 7] = chance.choice((0, 25, 26, 27, 28, 32, 255, last, last + 1, chance.randrange(256))) % 256
     else:
         r[at + chance.randrange(26)] = chance.randrange(256)
 
@@ -108,10 +112,10 @@ def hurt_list(r, entries, chance):
     """Entries change places, or one is written over another."""
     a, b = chance.choice(entries), chance.choice(entries)
     one, other = bytes(r[a:a + 26]), bytes(r[b:b + 26])
-    # their lengths stay, so that the list is walked as before
-    r[a:a + 26] = other[:4] + one[4:7] + other[7:]
+    # their lengths and where their names stand stay, so that the list is walked as before
+    r[a:a + 26] = other[:4] + one[4:8] + other[8:]
     if chance.random() < 0.5:
-        r[b:b + 26] = one[:4] + other[4:7] + one[7:]
+        r[b:b + 26] = one[:4] + other[4:8] + one[8:]
 
 
 def hurt_header(r, chance):

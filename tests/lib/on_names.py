@@ -12,7 +12,7 @@ CALLS = (
     "filename::names_of, filename::first_name, filename::find_name", "filename::name_of, filename::Namespace::is_long")
 
 # what refuses the file; and what can stop its walk
-OPENING, STOPPING = (1, 2, 21, 27), (2, 3, 4, 5, 6, 7, 10, 11, 13, 14, 15, 16, 17, 18, 27, 28)
+OPENING, STOPPING = (1, 2, 21, 27), (2, 3, 4, 5, 6, 7, 10, 11, 13, 14, 15, 16, 17, 18, 27, 28, 31)
 
 
 class Question(NamedTuple):

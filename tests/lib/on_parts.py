@@ -14,7 +14,7 @@ CALLS = ("parts::collect", "parts::fill", "File::next from fresh on, with parts:
 
 # What parts can refuse by behind the opening checks, for the first part and for a later one. Room for 157 is never
 # too little: 20 comes from lent lists alone.
-REFUSALS = (2, 3, 4, 5, 6, 7, 12, 14, 15, 16, 17, 18, 19, 20, 27, 28)
+REFUSALS = (2, 3, 4, 5, 6, 7, 12, 14, 15, 16, 17, 18, 19, 20, 27, 28, 31)
 
 
 class Question(NamedTuple):

@@ -11,7 +11,7 @@ from lib.reading.references import references, rising
 CALLS = ("References::of, References::rising",)
 
 # what refuses the record, and what stops the walk over its lists
-OPENING, STOPPING = (1, 2, 27), (3, 4, 5, 28, 7, 10, 11, 13, 14, 15, 16)
+OPENING, STOPPING = (1, 2, 27), (3, 4, 5, 28, 7, 10, 11, 13, 14, 15, 31, 16)
 
 
 class Question(NamedTuple):

@@ -5,8 +5,7 @@ import struct
 from lib import reading
 from lib.building import (
     END, ENTRY_BYTES, FIRST, NON_RESIDENT_BYTES, NUMBERS_BYTES, RESIDENT_BYTES, RESIDENT_FILL, ROW_BYTES, entry, head,
-    list_of,
-    non_resident, packed_table, record, resident, table,
+    list_of, name_start, non_resident, packed_table, record, resident, table,
 )
 from lib.damaging import LENGTHS, damaged, with_other_used
 
@@ -26,20 +25,32 @@ VCNS = (0, 0, 1, 5, 16, 2 ** 31, 2 ** 32 + 1, 2 ** 63 - 1, 2 ** 63, 2 ** 64 - 1)
 # in how many records the entries of one type and instance are not always those of one type and name
 OTHER_JOINED = 0.4
 
+# In how many records names stand behind padding, and how often one of these ends past its entry; where they are said to
+# stand, and where an empty one is.
+PADDED, PAST_ITS_END = 0.3, 0.02
+OFFSETS, ANY_OFFSETS = (*(26, 28, 30, 32, 32, 34, 40) * 9, 27, 25, 0), (26, 26, 26, 0, 25, 27, 32, 255)
+
 
 class Streams:
-    """What the entries of a record's lists are called, and from which VCN on they are.
+    """What the entries of a record's lists are called, where their names stand, and from which VCN on they are.
 
     Most often an instance has a name of its own, and what follows at once is from a VCN above 0 on, so that type and
     instance tell the same streams as type and name. In the other records two instances have one name, a name changes,
-    and what follows is from VCN 0 on now and then.
+    and what follows is from VCN 0 on now and then. Where names stand behind padding, that is made of names too.
     """
 
     def __init__(self, chance):
         self.chance, self.other = chance, chance.random() < OTHER_JOINED
+        self.padded = chance.random() < PADDED
         names = chance.sample(NAMES, len(NAMES))
         self.names = {k: chance.choice(names[:3]) if self.other else name for k, name in enumerate(names)}
         self.last = None
+
+    def offset_of(self, name):
+        """Where an entry says that its name stands."""
+        if not name:
+            return self.chance.choice(ANY_OFFSETS)
+        return self.chance.choice(OFFSETS) if self.padded else ENTRY_BYTES
 
     def entry(self, key, file, more=0, length=None, ty=None, **given):
         """The next entry, of this type and instance, `more` bytes longer than it must be; its type and its length may
@@ -52,9 +63,16 @@ class Streams:
         lowest = self.chance.choice(VCNS)
         if follows and lowest == 0 and not self.other:
             lowest = 1
-        length = ENTRY_BYTES + len(name) + more if length is None else length
-        return entry(
-            key[0] if ty is None else ty, file, key[1], length, len(name) // 2, lowest, name=name, **given)
+        units, offset = len(name) // 2, self.offset_of(name)
+        end = name_start(units, offset) + len(name)
+        if length is None:
+            past = self.padded and name and self.chance.random() < PAST_ITS_END
+            length = end - 1 if past else end + more
+        text = entry(
+            key[0] if ty is None else ty, file, key[1], length, units, lowest, name=name, name_offset=offset,
+            padding=self.chance.choice(NAMES[1:]), **given)
+        # no more than its length says
+        return text[:max(length, ENTRY_BYTES)]
 
 
 def random_attribute(chance, numbers, left, streams):

@@ -3,9 +3,10 @@ words.
 
 tests/compare_rust makes these files and compares with the crate itself; here no Rust is needed.
 
-The Rust joins entries by type and instance, and the rules by type and name. So each kept answer is held to the second
-reading as it joins them so, and the program to the second reading by the rules: where the two readings agree, the
-program is held to the Rust, and how many tables they differ on is told.
+The Rust joins entries by type and instance, and the rules by type and name; it reads names at byte 26, and the rules
+where entries say; and it walks past used sizes. So each kept answer is held to the second reading as it lists like the
+Rust, and the program to the second reading by the rules: where the two readings agree, the program is held to the Rust,
+and how many tables they differ on is told.
 """
 import base64
 import os
@@ -131,22 +132,21 @@ class Replayed(NamedTuple):
     cases: int
     lines: int
     parts: int
-    joined: int
+    otherwise: int
     different: list
 
 
 class Held:
-    """Holds the kept lines to what is read as the Rust joins entries, and the program's to what is read by the
-    rules."""
+    """Holds the kept lines to what is read as the Rust lists, and the program's to what is read by the rules."""
 
     def __init__(self):
-        self.lines, self.joined, self.different = 0, set(), []
+        self.lines, self.otherwise, self.different = 0, set(), []
 
     def hold(self, case, q, kept_lines, before, by_rules, told):
         """The lines of one answer: those kept, of both readings, and of the program."""
         self.lines += len(kept_lines)
         if before != by_rules:
-            self.joined.add(case)
+            self.otherwise.add(case)
         wrong = (kept_lines, before) if kept_lines != before else (by_rules, told)
         if wrong[0] != wrong[1]:
             self.different.append((q, *("\n".join(lines) for lines in wrong)))
@@ -166,13 +166,13 @@ def replayed_items(asker, text):
     asked = list(map(asker.counted, questions, by_rules))
     found, rest = asker.answers_in(asked, asker.answers_to(asked))
     assert not rest
-    with reading.joined_by_instance():
+    with reading.as_the_rust_lists(), reading.without_used_sizes():
         before = list(map(asker.expected, questions))
     held = Held()
     for q, (case, lines, on), *answers in zip(asked, kept_lines, before, by_rules, found):
         held.hold(case, q, lines, *(
             [first_told(answer)] if on is None else walk_told(on_items.lines_of(answer), on) for answer in answers))
-    return Replayed(len(cases), held.lines, 0, len(held.joined), held.different)
+    return Replayed(len(cases), held.lines, 0, len(held.otherwise), held.different)
 
 
 # Listings: both sides in the words of the listing, without counts.
@@ -273,10 +273,10 @@ def replayed_parts(asker, text):
     told = iter(of_records.answers_to([v for values in asked for v in values]).split("\n"))
     ours = [flat(listing_told(answer, [next(told) for _ in values])) for answer, values in zip(found, asked)]
     by_rules = list(read_listings(asker, of_records, questions))
-    with reading.joined_by_instance():
+    with reading.as_the_rust_lists(), reading.without_used_sizes():
         before = list(read_listings(asker, of_records, questions))
     held = Held()
     for case, (q, given, *lines) in enumerate(zip(questions, cases, before, by_rules, ours)):
         held.hold(case, q, given.lines, *lines)
     parts = sum(line.startswith("part ") for case in cases for line in case.lines)
-    return Replayed(len(cases), held.lines, parts, len(held.joined), held.different)
+    return Replayed(len(cases), held.lines, parts, len(held.otherwise), held.different)

@@ -271,8 +271,8 @@ impl Tell for Found {
 impl Tell for Entry {
     fn tell<W: Write>(&self, out: &mut W) -> io::Result<()> {
         write!(out, "entry {} {}", self.ty, self.length)?;
-        write!(out, " {} {}", self.name_units, self.lowest.0)?;
-        write!(out, " {} {}", self.file.0, self.instance)
+        write!(out, " {} {}", self.name_units, self.name_offset)?;
+        write!(out, " {} {} {}", self.lowest.0, self.file.0, self.instance)
     }
 }
 

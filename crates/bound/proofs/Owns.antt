@@ -3,15 +3,16 @@
 use Rattle.std.proofs.Common.{ℕ, zero, suc, ◌+◌, ◌-◌, ◌≡◌, List, [], ◌∷◌, length, ltb, eqb, refl}
 use Rattle.fields.specs.Answer.{Outcome, Answer, gives, ends, refuses, refusal, ◌⟫◌, unended}
 use Rattle.fields.specs.declared.Cause.{Cause}
-use Rattle.fields.specs.declared.Cause.TheVariants.{EntryCut, EntryShort, EntryNameCut, AttributeCut, AttributeShort}
-use Rattle.fields.specs.declared.Cause.TheVariants.{AttributeLong, HeaderCut, ValueOffset, ValueEnd, ListNotResident}
-use Rattle.fields.specs.declared.Cause.TheVariants.{NoAttribute, AttributeStale}
+use Rattle.fields.specs.declared.Cause.TheVariants.{EntryCut, EntryShort, EntryNameOutside, EntryNameCut}
+use Rattle.fields.specs.declared.Cause.TheVariants.{AttributeCut, AttributeShort, AttributeLong, HeaderCut}
+use Rattle.fields.specs.declared.Cause.TheVariants.{ValueOffset, ValueEnd, ListNotResident, NoAttribute}
+use Rattle.fields.specs.declared.Cause.TheVariants.{AttributeStale}
 use Rattle.fields.specs.Known.{end_marker}
 use Rattle.fields.specs.Le.{le}
 use Rattle.fields.specs.Trail.{behind, run, trail}
 use Rattle.fields.specs.declared.RecordNumber.{RecordNumber}
 use Rattle.fields.proofs.Cases.{both}
-use Rattle.list.specs.Entry.{entry_of, entry_at, named_size}
+use Rattle.list.specs.Entry.{entry_of, entry_at, named_size, name_outside, name_cut}
 use Rattle.record.specs.Header.{used_size}
 use Rattle.record.specs.Attribute.{attribute_at, checked_at}
 use Rattle.record.specs.Walk.{step_at, walk_from}
@@ -72,8 +73,9 @@ module _ (n : RecordNumber) where
       (both OwnStep (ltb (length rest) 26) _ _ (f EntryCut (λ q. cc))
       (both OwnStep (ltb (entry_at rest).length (named_size (entry_at rest).name_units)) _ _
       (f EntryShort (λ q. cc))
-      (both OwnStep (ltb (length rest) (named_size (entry_at rest).name_units)) _ _ (f EntryNameCut (λ q. cc))
-      (both OwnStep (ltb (length rest) (entry_at rest).length) ends (gives (entry_at rest)) tt tt))))
+      (both OwnStep (name_outside (entry_at rest)) _ _ (f EntryNameOutside (λ q. cc))
+      (both OwnStep (name_cut (entry_at rest) (length rest)) _ _ (f EntryNameCut (λ q. cc))
+      (both OwnStep (ltb (length rest) (entry_at rest).length) ends (gives (entry_at rest)) tt tt)))))
 
   after : {A B : Type 0} (a : Outcome A) (k : A → Outcome B) → Own a → ((x : A) → Own (k x)) → Own (a ⟫ k)
   after (gives x) k o f = f x

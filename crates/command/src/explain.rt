@@ -5,7 +5,7 @@ ghost use Rattle.command.specs.Explain.{explained};
 use fields::Cause;
 
 /// All causes, in the order of their numbers.
-pub const CAUSES: [Cause; 33] = [
+pub const CAUSES: [Cause; 34] = [
     Cause::RecordLength,
     Cause::NotFile,
     Cause::AttributeCut,
@@ -36,6 +36,7 @@ pub const CAUSES: [Cause; 33] = [
     Cause::AttributeStale,
     Cause::FixupArray,
     Cause::FixupPair,
+    Cause::EntryNameOutside,
     Cause::TooManyRows,
     Cause::OutputShort,
     Cause::RowNumber,

@@ -39,7 +39,7 @@ pub enum Reason {
     Lost(RecordNumber, RecordNumber, Absence),
     #[error("record {number}: {1} ({cause})", number = .0.0, cause = .1.number())]
     Unlisted(RecordNumber, Cause),
-    #[error("record {number} may have the name too, its listing stops: {1} ({cause})", number = .0.0, cause = .1.number())]
+    #[error("record {file} may have the name too, its listing stops: {1} ({cause})", file = .0.0, cause = .1.number())]
     Unsearched(RecordNumber, Cause),
     #[error("{0}")]
     Unreadable(io::Error),

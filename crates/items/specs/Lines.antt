@@ -6,7 +6,8 @@ use Rattle.fields.specs.LeBytes.{le_bytes}
 use Rattle.fields.specs.Answer.{Outcome, Answer, gives, ends, refuses, refusal, unended}
 use Rattle.fields.specs.declared.Cause.{Cause}
 use Rattle.fields.specs.declared.Cause.TheVariants.{AttributeCut, AttributeShort, AttributeLong, NameOffset}
-use Rattle.fields.specs.declared.Cause.TheVariants.{ValueEnd, EntryShort, EntryNameCut, UsedSize, AttributeStale}
+use Rattle.fields.specs.declared.Cause.TheVariants.{ValueEnd, EntryShort, EntryNameOutside, EntryNameCut, UsedSize}
+use Rattle.fields.specs.declared.Cause.TheVariants.{AttributeStale}
 use Rattle.fields.specs.declared.RecordNumber.{RecordNumber}
 use Rattle.list.specs.Entry.{entry_of}
 use Rattle.list.specs.declared.Entry.{Entry}
@@ -74,9 +75,9 @@ abbrev pub attribute : ℕ → ℕ → ℕ → List ℕ → ℕ → List ℕ
 attribute size units at many from =
     16 ∷ 0 ∷ 0 ∷ 0 ∷ size ∷ 0 ∷ 0 ∷ 0 ∷ 0 ∷ units ∷ at ∷ 0 ∷ 0 ∷ 0 ∷ 0 ∷ 0 ∷ (many ++ (from ∷ 0 ∷ []))
 
--- a list entry's first bytes: type 16, a length, then name units and name offset 26
-abbrev pub entry_bytes : ℕ → ℕ → List ℕ
-entry_bytes size units = 16 ∷ 0 ∷ 0 ∷ 0 ∷ size ∷ 0 ∷ units ∷ 26 ∷ []
+-- a list entry's first bytes: type 16, a length, then name units and name offset
+abbrev pub entry_bytes : ℕ → ℕ → ℕ → List ℕ
+entry_bytes size units at = 16 ∷ 0 ∷ 0 ∷ 0 ∷ size ∷ 0 ∷ units ∷ at ∷ []
 
 abbrev pub none : List ℕ
 none = 0 ∷ 0 ∷ 0 ∷ 0 ∷ []
@@ -99,11 +100,24 @@ rows =
     -- value offset 24, length 4,294,967,295 gives 11
     ∷ row value 96 56 (attribute 32 0 0 most 24) (refused ValueEnd 56)
     -- entry length 28 with one name unit accepted, 27 gives 15; entry length 40, no name, with 32 left: the end
-    ∷ row entry 96 64 (entry_bytes 28 1) (gives tt)
-    ∷ row entry 96 64 (entry_bytes 27 1) (refused EntryShort 64)
-    ∷ row entry 96 64 (entry_bytes 40 0) ends
+    ∷ row entry 96 64 (entry_bytes 28 1 26) (gives tt)
+    ∷ row entry 96 64 (entry_bytes 27 1 26) (refused EntryShort 64)
+    ∷ row entry 96 64 (entry_bytes 40 0 26) ends
     -- 26 left, length 28, one unit gives 16
-    ∷ row entry 96 70 (entry_bytes 28 1) (refused EntryNameCut 70)
+    ∷ row entry 96 70 (entry_bytes 28 1 26) (refused EntryNameCut 70)
+    -- a name at 25 gives 31; one that ends with its entry is accepted, one that ends past it gives 31
+    ∷ row entry 96 64 (entry_bytes 28 1 25) (refused EntryNameOutside 64)
+    ∷ row entry 96 64 (entry_bytes 30 1 28) (gives tt)
+    ∷ row entry 96 64 (entry_bytes 30 1 29) (refused EntryNameOutside 64)
+    -- no name: any name offset is accepted
+    ∷ row entry 96 64 (entry_bytes 26 0 0) (gives tt)
+    ∷ row entry 96 70 (entry_bytes 26 0 255) (gives tt)
+    -- 15 comes before 31, and 31 before 16
+    ∷ row entry 96 64 (entry_bytes 27 1 25) (refused EntryShort 64)
+    ∷ row entry 96 70 (entry_bytes 28 1 25) (refused EntryNameOutside 70)
+    -- 32 left, length 34: a name that ends at 32: the end; one that ends at 33 gives 16
+    ∷ row entry 96 64 (entry_bytes 34 1 30) ends
+    ∷ row entry 96 64 (entry_bytes 34 1 31) (refused EntryNameCut 64)
     -- used size 72 in 72 bytes accepted, 73 gives 27 at 0
     ∷ row_used step 72 72 56 (16 ∷ 0 ∷ 0 ∷ 0 ∷ 16 ∷ []) (gives tt)
     ∷ row_used step 72 73 56 (16 ∷ 0 ∷ 0 ∷ 0 ∷ 16 ∷ []) (refused UsedSize 0)
@@ -145,6 +159,7 @@ entry_with t m v = record {
   ty = t;
   length = 26 + length m;
   name_units = length m / 2;
+  name_offset = 26;
   lowest = record { 0 = v };
   file = number;
   instance = 0;

@@ -3,7 +3,6 @@ use Rattle.std.specs.Prelude.{ℕ, ◌-◌, ◌*◌, List, ◌++◌, take, drop,
 use Rattle.std.specs.Prelude.{Option, Some, None, Result, Ok, Err}
 use Rattle.fields.specs.Answer.{Answer, gives, ends, refuses}
 use Rattle.fields.specs.declared.Refusal.{Refusal}
-use Rattle.list.specs.Entry.{header_size}
 use Rattle.list.specs.declared.Entry.{Entry}
 use Rattle.list.specs.declared.named_entry.NamedEntry.{NamedEntry}
 
@@ -11,9 +10,9 @@ use Rattle.list.specs.declared.named_entry.NamedEntry.{NamedEntry}
 abbrev pub most_name : ℕ
 most_name = 510
 
--- the bytes of its name: those behind the header, wherever the entry's own name offset points
+-- the bytes of its name: those at the entry's own name offset
 unfoldable pub name_at : List ℕ → Entry → List ℕ
-name_at rest e = take (2 * e.name_units) (drop header_size rest)
+name_at rest e = take (2 * e.name_units) (drop e.name_offset rest)
 
 -- a name, and zeros up to 510 bytes
 unfoldable pub padded : List ℕ → List ℕ

@@ -1,4 +1,4 @@
-//! An entry with its name (RULES 9.8).
+//! An entry with its name (RULES 9.9).
 ghost use Rattle.std.specs.Prelude.{◌≡◌, ◌*◌, length};
 
 use crate::{Entry, MOST_NAME};

@@ -11,7 +11,7 @@ use Rattle.fields.specs.declared.Cause.TheVariants.{ListNotResident, EntryCut, E
 use Rattle.fields.specs.declared.Cause.TheVariants.{NoRecord, NoAttribute, PartResident, NoRoom}
 use Rattle.fields.specs.declared.Cause.TheVariants.{BadTable, BadState, RunSize, RunCut, RunEmpty, RunRange}
 use Rattle.fields.specs.declared.Cause.TheVariants.{UsedSize, AttributeStale, FixupArray, FixupPair}
-use Rattle.fields.specs.declared.Cause.TheVariants.{TooManyRows, OutputShort, RowNumber}
+use Rattle.fields.specs.declared.Cause.TheVariants.{EntryNameOutside, TooManyRows, OutputShort, RowNumber}
 use Rattle.command.specs.Explain.{explained}
 use Rattle.command.specs.declared.explain.TheConstants.{CAUSES}
 
@@ -46,6 +46,7 @@ small UsedSize = omega arith
 small AttributeStale = omega arith
 small FixupArray = omega arith
 small FixupPair = omega arith
+small EntryNameOutside = omega arith
 small TooManyRows = omega arith
 small OutputShort = omega arith
 small RowNumber = omega arith

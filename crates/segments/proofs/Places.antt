@@ -36,6 +36,7 @@ entry_in k s at l =
       le_in 4 k s at 0 (omega arith),
       le_in 2 k s at 4 (omega arith),
       get_or-take k (drop at s) 6 0 (omega arith),
+      get_or-take k (drop at s) 7 0 (omega arith),
       le_in 8 k s at 8 (omega arith),
       le_in 6 k s at 16 (omega arith),
       le_in 2 k s at 24 (omega arith),

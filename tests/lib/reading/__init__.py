@@ -7,15 +7,16 @@ besides, `directory` (rows), `single` (one record), `references`, `hazards`, `na
 `extracts`, over none of them. Apart on purpose are the parts in `parts` and in `listing`: they are the rules' longest
 tale, told by two who share nothing of it but the attribute, the entry and the search.
 
-`without_used_sizes` turns 27 and 28 off, so that it can be told what they alone decide. `joined_by_instance` joins
-entries as they were joined before, by type and instance.
+`older` has what the rules of before need: `without_used_sizes` turns 27 and 28 off; `names_at_26` reads an entry's name
+at byte 26, as before; `joined_by_instance` joins entries as before, by type and instance; `as_the_rust_lists` does the
+last two.
 
 In the modules on records, entries, runs, tables and extracts a refusal is raised; in those on walks it is a value,
 since a walk goes on behind it. An end is None, everything else is returned. Offsets that an answer tells of count from
 the record's start.
 """
 from .answers import Attribute, Entry, Header, NonResident, Refusal, Resident, Runs, Span, TableHeader
-from .entries import MOST_NAME, entry, entry_name, joined_by_instance
+from .entries import MOST_NAME, as_the_rust_lists, entry, entry_name, joined_by_instance, names_at_26
 from .record import (
     ATTRIBUTE_FLAGS, KNOWN, LIST, MARKER, attribute_at, find, first_place, full, header, name, opened_list, opening,
     step, used_size, value, view, walk, without_used_sizes,

@@ -60,11 +60,12 @@ class Runs(NamedTuple):
 
 
 class Entry(NamedTuple):
-    """A list entry; `file` is the record number of its reference."""
+    """A list entry; `name` is its name's offset, `file` the record number of its reference."""
 
     ty: int
     length: int
     units: int
+    name: int
     lowest: int
     file: int
     instance: int

@@ -108,7 +108,7 @@ def in_list(record, number, rows, state):
         text = record[here.start:here.end]
         e = entry(text, number, here.start)
     except Refusal as refusal:
-        # 14, 15, 16: the state stays at that entry
+        # 14, 15, 31, 16: the state stays at that entry
         return refusal, state, 0
     if e is None:
         # a list that ends is closed

@@ -6,9 +6,9 @@ to that reading, those of the listing to this one, and where both pass two readi
 from typing import NamedTuple
 
 from .answers import Refusal, Span
-from .entries import BY_INSTANCE, ENTRY, entry
+from .entries import BY_INSTANCE, entry
 from .items import fresh, next_in, table_of
-from .record import CONSULTED, KNOWN, find, full_of, name, number_at, value
+from .record import KNOWN, WITHOUT_USED, find, full_of, name, number_at, value
 from .runs import all_runs
 
 # RULES 18: a longer input counts as malformed; room for the parts of an item
@@ -39,7 +39,7 @@ def no_file(record):
     """Which of 2 and 27 refuses a whole record, 0 where neither does (RULES 3)."""
     if record[:4] != b"FILE":
         return 2
-    return 27 if CONSULTED.get() and number_at(record, USED_AT, 4) > len(record) else 0
+    return 27 if not WITHOUT_USED.get() and number_at(record, USED_AT, 4) > len(record) else 0
 
 
 def part_of(record, number, rows, e, place):
@@ -69,7 +69,8 @@ def stream_of(record, e, at):
     """What the entries of one stream have alike: the type and the name (RULES 14)."""
     if BY_INSTANCE.get():
         return e.ty, e.instance
-    return e.ty, bytes(record[at + ENTRY.size:at + ENTRY.size + 2 * e.units])
+    start = at + e.name
+    return e.ty, bytes(record[start:start + 2 * e.units])
 
 
 def parts_of(record, number, rows, rest, room=ROOM):
@@ -80,7 +81,7 @@ def parts_of(record, number, rows, rest, room=ROOM):
     out, reads, first, at = [], 0, None, rest.start
     while True:
         try:
-            # 14, 15, 16
+            # 14, 15, 31, 16
             e = entry(record[at:rest.end], number, at)
         except Refusal as refusal:
             return out, refusal, reads

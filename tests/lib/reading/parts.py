@@ -67,7 +67,7 @@ def parts_in(record, number, rows, rest, room=ROOM):
     parts, reads, key, at = [], 0, None, rest.start
     # an item that tells no list has none
     while rest.there:
-        # 14, 15, 16
+        # 14, 15, 31, 16
         try:
             text = record[at:rest.end]
             e = entry(text, number, at)

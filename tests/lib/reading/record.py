@@ -1,8 +1,6 @@
 """A second reading of the rules on one record and its attributes (RULES 1 to 7 and 12)."""
-import contextlib
-import contextvars
-
 from .answers import Attribute, Header, NonResident, Refusal, Resident, Runs, Span
+from .older import older
 
 MARKER = 0xFFFFFFFF
 
@@ -17,19 +15,8 @@ ATTRIBUTE_FLAGS = 0x0001 | 0x4000 | 0x8000
 RECORD_FLAGS = 0x0001 | 0x0002
 
 
-# Whether the used sizes are consulted, which is what the rules say. Without 27 and 28 this reads as it would have
-# before they were rules: what the two answer differently is what those two decide.
-CONSULTED = contextvars.ContextVar("used sizes are consulted", default=True)
-
-
-@contextlib.contextmanager
-def without_used_sizes():
-    """27 and 28 are given by nothing that is read inside this block."""
-    before = CONSULTED.set(False)
-    try:
-        yield
-    finally:
-        CONSULTED.reset(before)
+# Without 27 and 28 this reads as it would have before they were rules.
+WITHOUT_USED, without_used_sizes = older("used sizes are not consulted")
 
 
 def number_at(record, at, width):
@@ -49,7 +36,7 @@ def opened_file(record, number):
     if bytes(record[:4]) != b"FILE":
         raise Refusal(2, number, 0)
     # 27, the used size against the record's own length; the allocated size is not asked
-    if CONSULTED.get() and used_size(record) > len(record):
+    if not WITHOUT_USED.get() and used_size(record) > len(record):
         raise Refusal(27, number, 0)
 
 
@@ -95,7 +82,7 @@ def checked(record, number, at):
     if length > left:
         raise Refusal(5, number, at)
     # what ends where the used size does is inside: the end marker may stand behind it
-    if CONSULTED.get() and at + length > used_size(record):
+    if not WITHOUT_USED.get() and at + length > used_size(record):
         raise Refusal(28, number, at)
     return Attribute(
         offset=at,

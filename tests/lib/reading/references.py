@@ -17,7 +17,7 @@ class References(NamedTuple):
 
 
 def entries_of(record, number, span):
-    """The entries of a list that stands in these bytes of a record, in order, or 14, 15 or 16."""
+    """The entries of a list that stands in these bytes of a record, in order, or 14, 15, 31 or 16."""
     at, end = span.start, span.start + span.count
     while True:
         given = entry(record[at:end], number, at)
