@@ -13,13 +13,14 @@ _nomutanku() {
         esac
     done
     case $command in
-    '') options='list rows record extract explain help --help --version' ;;
+    '') options='list rows record extract merge explain help --help --version' ;;
     list) options='--base --mft --size --first --all --find --names --strict --json --help' ;;
     rows) options='--json --help' ;;
     record) options='--number --json --help' ;;
     extract) options='--size --first --from --count -o --help' ;;
+    merge) options='-o --help' ;;
     explain) options='--help' ;;
-    help) options='list rows record extract explain help' ;;
+    help) options='list rows record extract merge explain help' ;;
     esac
     case $before in
     # a number comes here, or a name, and no file

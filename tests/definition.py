@@ -20,7 +20,7 @@ import public
 ROOT = public.ROOT
 
 # the most lines of the rules' definition, without imports, comments and blank lines
-MOST = 1167
+MOST = 1222
 
 # the heads of the page's two tables that name files, and the class of the first one's
 RULES = "| rules | what | file | the definitions |"

@@ -136,12 +136,27 @@ FORMS = [
     (
         "the tail is unchanged", "crates/parts/specs/Filled.antt",
         r"\nput xs k \(g ∷ gs\) = put \(slice_set xs k g\.part\) \(k \+ 1\) gs\n", None),
+    (
+        "the rows of two tables are compared by their numbers", "crates/merge/src/lib.rt", r"fn by_number\(",
+        [r"result ≡ nat_cmp ", r"ours\.0\.number\.cmp\(&theirs\.0\.number\)"]),
+    (
+        "two directories side by side, and what both have compared once", "crates/merge/src/lib.rt",
+        r"fn judge\(&self\)",
+        [r"result ≡ judged_of self\.now", r"self\.first\.rows\(\)",
+         r"\.merge_join_by\(self\.second\.rows\(\), by_number\)", r"EitherOrBoth::Both\(", r"if record != other"]),
+    (
+        "the same walk writes", "crates/merge/src/lib.rt", r"fn fill\(&self,",
+        [r"table\.new ≡ table_of_merge ", r"self\.first\.rows\(\)",
+         r"\.merge_join_by\(self\.second\.rows\(\), by_number\)"]),
+    (
+        "no byte is written before all refusals are known", "crates/merge/src/lib.rt", r"pub fn write\(&self, table",
+        [r"self\.judge\(\)", r"Shape::of\(", r"\.check_room\(", r"self\.fill\("]),
 ]
 
 # which crate must be proved from which: each layer through what the one below it promises
 ABOVE = [
     ("list", "fields"), ("record", "fields"), ("items", "record"), ("items", "list"), ("items", "table"),
-    ("parts", "items"), ("lines", "parts"), ("listing", "lines")]
+    ("parts", "items"), ("lines", "parts"), ("listing", "lines"), ("written", "table"), ("merge", "written")]
 
 
 def missing(read):

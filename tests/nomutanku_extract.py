@@ -12,7 +12,7 @@ from lib import running, suite
 from lib.building import with_used
 from lib.on_nomutanku import Nomutanku
 from lib.running import read
-from nomutanku_streams import kilobytes
+from nomutanku_streams import made_in_little_memory
 
 # bytes that one check number guards
 SECTOR = 512
@@ -505,30 +505,11 @@ def test_standard_error_that_takes_nothing(test):
 def test_little_memory(test):
     """Under a rising limit of address space: 3 with its words and the older table, or all of the table; nothing
     else."""
-    path, old = test.file("x.mft", SOUND * 700), os.path.join(test.room, "old.tab")
+    path = test.file("x.mft", SOUND * 700)
     expected = table([(n, fixed((A, B, C)[n % 3])) for n in range(2100)])
     said = {"%s: out of memory\n" % path, "nomutanku: out of memory\n",
             "%s: Cannot allocate memory (os error 12)\n" % path}
-    cut, fine = 0, 0
-    for limit in (1024 * k for k in kilobytes()):
-        test.file("old.tab", b"old")
-        try:
-            status, out, told = test.run(
-                "extract", "-o", old, path, preexec_fn=lambda: resource.setrlimit(resource.RLIMIT_AS, (limit, limit)))
-        except (OSError, subprocess.SubprocessError):
-            continue
-        # 127 and signals are the loader's, which has no room for the program itself
-        if status == 127 or status < 0:
-            assert cut == fine == 0, (limit, status)
-        elif status == 0:
-            test.same((out, told, read(old) == expected), b"", counts(2100, 0, 0), True)
-            fine += 1
-        else:
-            test.same((status, out, told in said, read(old)), 3, b"", True, b"old")
-            cut += 1
-        assert not [name for name in os.listdir(test.room) if ".part." in name]
-    assert cut and fine, (cut, fine)
-    print("%d runs short of memory and %d not" % (cut, fine))
+    made_in_little_memory(test, ("extract", path), said, expected, counts(2100, 0, 0))
 
 
 main = suite.of(Nomutanku, Nomutanku.finish)

@@ -235,28 +235,60 @@ def kilobytes():
     return [*range(2000, 12000, 250), *range(12000, 90000, 4000)]
 
 
+def under_rising_limits(test, words):
+    """The status of each run under a rising limit of address space, and what it writes and says, from the first one on
+    for which the loader has room."""
+    began = False
+    for limit in (1024 * k for k in kilobytes()):
+        try:
+            status, out, said = test.run(
+                *words, preexec_fn=lambda: resource.setrlimit(resource.RLIMIT_AS, (limit, limit)))
+        except (OSError, subprocess.SubprocessError):
+            continue
+        # 127 and signals are the loader's, which has no room for the program itself
+        if status == 127 or status < 0:
+            assert not began, (limit, status)
+            continue
+        began = True
+        yield status, out, said
+
+
+def counted(words, cut, fine):
+    """Tells how many runs were short of memory, and how many were not; there have to be some of both."""
+    assert cut and fine, (cut, fine)
+    print("%s: %d runs short of memory and %d not" % (" ".join(words), cut, fine))
+
+
+def made_in_little_memory(test, words, said, expected, told):
+    """Under a rising limit of address space a table is made, with `-o`: 3 with one of these words and the older file,
+    or all of the table with what is told of it; nothing else."""
+    old = test.file("old.tab", b"old")
+    cut, fine = 0, 0
+    for status, out, line in under_rising_limits(test, (words[0], "-o", old, *words[1:])):
+        if status == 0:
+            test.same((out, line, read(old) == expected), b"", told, True)
+            fine += 1
+        else:
+            test.same((status, out, line in said, read(old)), 3, b"", True, b"old")
+            cut += 1
+        assert not [name for name in os.listdir(test.room) if ".part." in name]
+        test.file("old.tab", b"old")
+    counted(words[:1], cut, fine)
+
+
 def rising_memory(test, words, path, expected):
     """Under a rising limit of address space: 3 with its words, or all that there is to tell, and nothing else."""
     told = {"%s: out of memory\n" % path, "nomutanku: out of memory\n",
             "%s: Cannot allocate memory (os error 12)\n" % path}
     cut, fine = 0, 0
-    for limit in (1024 * k for k in kilobytes()):
-        try:
-            status, out, said = test.run(
-                *words, path, preexec_fn=lambda: resource.setrlimit(resource.RLIMIT_AS, (limit, limit)))
-        except (OSError, subprocess.SubprocessError):
-            continue
-        # 127 and signals are the loader's, which has no room for the program itself
-        if status == 127 or status < 0:
-            assert cut == fine == 0, (limit, status)
-        elif status == 0:
+    for status, out, said in under_rising_limits(test, (*words, path)):
+        if status == 0:
             test.same((out, said), expected, "")
             fine += 1
         else:
             test.same((status, out, said in told), 3, b"", True)
             cut += 1
-    assert cut and fine, (cut, fine)
-    print("%s: %d runs short of memory and %d not" % (" ".join(words), cut, fine))
+    counted(words, cut, fine)
 
 
 def test_little_memory(test):

@@ -16,7 +16,7 @@ USAGE_SAID = {
 }
 
 # the refusals there are (RULES 19)
-REFUSALS = (*range(1, 32), 34, 35, 44)
+REFUSALS = (*range(1, 36), 44)
 
 
 def test_a_difference_is_noticed(test):
@@ -224,6 +224,8 @@ WRONG = (
     ("explain", "--json", "1"), ("list", "--json=1", "a"), ("list", "--number", "1", "a"), ("rows", "--base", "1", "a"),
     ("rows", "--number", "1", "a"), ("record", "--base", "1", "a"), ("record", "--number", "x", "a"),
     ("record", "--number"), ("record", "--number", str(2 ** 64), "a"), ("record", "a", "b"), ("list", "-o", "a", "b"),
+    ("merge",), ("merge", "a"), ("merge", "a", "b", "c"), ("merge", "-", "-"), ("merge", "--json", "a", "b"),
+    ("merge", "--base", "1", "a", "b"), ("merge", "a", "b", "-o"),
 )
 
 
@@ -241,6 +243,7 @@ NAMED = {
     "list": ("--base <N>", "--json", "[TABLE]..."), "rows": ("--json", "[TABLE]..."),
     "record": ("--number <N>", "--json", "[FILE]"), "explain": ("<N>",),
     "extract": ("--size <N>", "--first <N>", "--from <POSITION>", "--count <N>", "-o <TABLE>", "[MFT]"),
+    "merge": ("-o <TABLE>", "<A>", "<B>"),
 }
 
 
@@ -268,8 +271,10 @@ def test_explanations(test):
     test.same(said[26][1:], b"27: the record's used size is above its length\n", "")
     test.same(said[27][1:], b"28: the attribute ends past the record's used size\n", "")
     test.same(said[30][1:], b"31: the list entry's name is over its header or past its end\n", "")
+    test.same(said[31][1:], b"32: the two tables have records of different sizes\n", "")
+    test.same(said[32][1:], b"33: the two tables have different records of one number\n", "")
     test.same(said[REFUSALS.index(44)][1:], b"44: the table would have a record number of 2^48 or more\n", "")
-    for n in (0, 32, 33, 36, 43, 45, 256, 256 + 44, 2 ** 64 - 1):
+    for n in (0, 36, 43, 45, 256, 256 + 44, 2 ** 64 - 1):
         test.same(test.run("explain", str(n)), 64, b"", "nomutanku: there is no refusal %d\n" % n)
 
 

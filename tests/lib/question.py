@@ -10,7 +10,7 @@ import struct
 
 # Where the kinds of question of each layer begin: crates/ask/src/main.rt has them all.
 ON_RECORDS, ON_TABLES, ON_ITEMS, ON_PARTS, ON_LISTINGS, ON_RUNS, ON_EXTRACTS = 0, 16, 23, 27, 30, 32, 34
-ON_CHOSEN, ON_REFERENCES, ON_HAZARDS, ON_NAMES = 35, 36, 37, 38
+ON_CHOSEN, ON_REFERENCES, ON_HAZARDS, ON_NAMES, ON_MERGES = 35, 36, 37, 38, 40
 
 # The numbers by their tags.
 TAGS = {

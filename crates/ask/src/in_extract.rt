@@ -6,12 +6,12 @@ use fields::Refusal;
 use std::io;
 use std::io::{ErrorKind, Write};
 
-// A question's own table can't be written, so its bytes are copied into a room for it.
-fn lent<'a>(q: &Question<'_>, room: &'a mut [u8]) -> io::Result<&'a mut [u8]> {
-    let Some(buffer) = room.get_mut(..q.table.len()) else {
+/// A question's own bytes can't be written, so those that a buffer holds are copied into a room for it.
+pub fn lent<'a>(held: &[u8], room: &'a mut [u8]) -> io::Result<&'a mut [u8]> {
+    let Some(buffer) = room.get_mut(..held.len()) else {
         return Err(io::Error::from(ErrorKind::InvalidData));
     };
-    buffer.copy_from_slice(q.table);
+    buffer.copy_from_slice(held);
     Ok(buffer)
 }
 
@@ -29,7 +29,7 @@ fn extracted(q: &Question<'_>, buffer: &mut [u8]) -> Result<Extracted, Refusal> 
 
 /// What a call reports or refuses, and the whole buffer that it was lent, as it stands then.
 pub fn write<W: Write>(out: &mut W, q: &Question<'_>, room: &mut [u8]) -> io::Result<()> {
-    let buffer = lent(q, room)?;
+    let buffer = lent(q.table, room)?;
     let answer = extracted(q, buffer);
     answer.tell(out)?;
     out.write_all(b" ")?;
@@ -52,7 +52,7 @@ fn tell_judged<W: Write>(out: &mut W, q: &Question<'_>, extract: &Extract<'_>) -
 
 /// The same of records with a number each, and in front of the buffer what becomes of each record.
 pub fn write_chosen<W: Write>(out: &mut W, q: &Question<'_>, room: &mut [u8]) -> io::Result<()> {
-    let buffer = lent(q, room)?;
+    let buffer = lent(q.table, room)?;
     match Extract::chosen(q.record, q.size, q.listed) {
         Ok(extract) => {
             let extract = based(extract, q);

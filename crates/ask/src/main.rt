@@ -4,6 +4,7 @@
 
 mod in_extract;
 mod in_listing;
+mod in_merge;
 mod in_names;
 mod in_record;
 mod in_references;
@@ -75,8 +76,8 @@ fn answer_on_file<W: Write>(out: &mut W, q: &Question<'_>) -> io::Result<()> {
     }
 }
 
-// The questions on extracts, whose calls want a room to write to, and on hazards, which are allocated; or one of the
-// others.
+// The questions on extracts and on two tables, whose calls want a room to write to, and on hazards, which are allocated;
+// or one of the others.
 fn answer<W: Write>(
     out: &mut W,
     q: &Question<'_>,
@@ -87,6 +88,7 @@ fn answer<W: Write>(
         34 => in_extract::write(out, q, room),
         35 => in_extract::write_chosen(out, q, room),
         37 => in_segments::hazards(out, q, alloc),
+        40 => in_merge::write(out, q, room),
         _ => answer_on_record(out, q),
     }
 }

@@ -74,8 +74,9 @@ const MOST_LISTED: usize = 8_400;
 /// a listing's text. `last` and `sum` go from one run to the next, and `run_bytes` is how many bytes of a record hold
 /// runs. The record is, for an entry, the rest of a list, and for one run the run bytes; for an extract it is the
 /// extract, of records of `size` bytes, and the table is what its buffer holds; `listed` are the numbers of its records
-/// where these are chosen, and `base` is the record that its table is to have for its base record. The kind is the byte
-/// that came: `main` has the kinds.
+/// where these are chosen, and `base` is the record that its table is to have for its base record. Of two tables that
+/// are merged the record is the first, and the table is the second and behind it what their buffer holds, `buffer`
+/// bytes. The kind is the byte that came: `main` has the kinds.
 #[derive(Clone, Copy)]
 pub struct Question<'a> {
     pub kind: u8,

@@ -4,6 +4,7 @@ use fields::{Counted, RecordNumber, Refusal};
 use filename::{Found, Namespace};
 use items::{Item, Key, Rest, State, Walked};
 use list::{Entry, Listed};
+use merge::{Merged, Unmerged};
 use parts::Part;
 use record::{Attribute, FullHeader, RecordHeader, Span, Value, View};
 use references::{References, Rising};
@@ -178,6 +179,25 @@ impl Tell for Extracted {
             Some(first) => first.tell(out),
             None => out.write_all(b"none"),
         }
+    }
+}
+
+impl Tell for Merged {
+    fn tell<W: Write>(&self, out: &mut W) -> io::Result<()> {
+        write!(out, "merged {} {}", self.length, self.written)
+    }
+}
+
+// Whose fault a refusal is, or the number of a clash, in front of it.
+impl Tell for Unmerged {
+    fn tell<W: Write>(&self, out: &mut W) -> io::Result<()> {
+        match self {
+            Unmerged::First(_) => out.write_all(b"first ")?,
+            Unmerged::Second(_) => out.write_all(b"second ")?,
+            Unmerged::Clash(number, _) => write!(out, "clash {} ", number.0)?,
+            Unmerged::Both(_) => out.write_all(b"both ")?,
+        }
+        self.refusal().tell(out)
     }
 }
 

@@ -98,7 +98,7 @@ module _ (t r : List ℕ) (enough : reach_of t ≤ length t) where
       ap (map (λ l. told.Listed l))
       (ap (numbered_lines most_parts (t ++ r) n) (table_same t r enough) ∙ numbered_by most_parts n (table_of t) refl)
 
-  file_same : is_file (t ++ r) ≡ is_file t
+  pub file_same : is_file (t ++ r) ≡ is_file t
   unfolding is_file
   file_same = let l = header_there t r enough in rw (take-append-le 4 t r (omega arith)) refl
 

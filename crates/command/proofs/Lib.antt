@@ -5,6 +5,8 @@ pub mod Fronts
 pub mod Misfits
 pub mod Moved
 pub mod Making
+pub mod MergeFailures
+pub mod MergeFronts
 pub mod Passed
 pub mod Sizes
 pub mod Taken

@@ -1,4 +1,5 @@
--- The definition's chapter on the command: what is asked, statuses, reasons, names, explanations and extracts.
+-- The definition's chapter on the command: what is asked, statuses, reasons, names, explanations, extracts and
+-- tables that are merged.
 pub mod Status
 pub mod Names
 pub mod Asked
@@ -15,4 +16,9 @@ pub mod Moves
 pub mod Run
 pub mod Counts
 pub mod Make
+pub mod Flaw
+pub mod MergeFailure
+pub mod MergeMessage
+pub mod Merging
+pub mod Unread
 pub mod Laws

@@ -1,9 +1,10 @@
-//! What is told of an extract whose table was made.
+//! What is told of an extract whose table was made, and of two tables that were made one.
 ghost use Rattle.std.specs.Prelude.{Some};
-ghost use Rattle.command.specs.Counts.{counts_text};
+ghost use Rattle.command.specs.Counts.{counts_text, written_text};
 
 use extract::Extracted;
 use fields::{Cause, RecordNumber};
+use merge::Merged;
 use std::fmt;
 
 /// How many records were written, left out and refused: `written W left L refused R`.
@@ -20,6 +21,18 @@ impl fmt::Display for Counts<'_> {
             "written {} left {} refused {}",
             counted.written, counted.left_out, counted.refused
         )
+    }
+}
+
+/// How many rows the table of two has: `written W`.
+#[derive(Clone, Copy)]
+pub struct Written(pub Merged);
+
+impl fmt::Display for Written {
+    ghost output = { λ w. Some (written_text w.0) };
+
+    fn fmt<W: fmt::Write>(&self, f: &mut fmt::Formatter<W>) -> fmt::Result {
+        write!(f, "written {}", self.0.written)
     }
 }
 

@@ -5,7 +5,7 @@ ghost use Rattle.command.specs.Explain.{explained};
 use fields::Cause;
 
 /// All causes, in the order of their numbers.
-pub const CAUSES: [Cause; 34] = [
+pub const CAUSES: [Cause; 36] = [
     Cause::RecordLength,
     Cause::NotFile,
     Cause::AttributeCut,
@@ -37,6 +37,8 @@ pub const CAUSES: [Cause; 34] = [
     Cause::FixupArray,
     Cause::FixupPair,
     Cause::EntryNameOutside,
+    Cause::SizesDiffer,
+    Cause::RecordsDiffer,
     Cause::TooManyRows,
     Cause::OutputShort,
     Cause::RowNumber,

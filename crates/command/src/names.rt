@@ -1,7 +1,8 @@
 //! How a file's name is shown: in bytes that print, so that no name can pass for a line of a listing, or speak to a
 //! terminal.
-ghost use Rattle.std.specs.Prelude.{◌≡◌, ◌++◌, OnOk, IfOk};
+ghost use Rattle.std.specs.Prelude.{◌≡◌, ◌++◌, Some, OnOk, IfOk};
 ghost use Rattle.std.specs.Char.Escape.{escape_ascii};
+ghost use Rattle.std.specs.Fmt.{WritesOnOk};
 ghost use Rattle.report.specs.declared.form.Form.TheVariants as forms;
 ghost use Rattle.command.specs.Names.{shown_of, is_escaped, escaped, string_of, heading_of};
 
@@ -14,9 +15,24 @@ use std::fmt;
 #[derive(Clone, Copy)]
 pub struct Shown<'a>(pub &'a str);
 
+// A byte as it is shown.
+fn write_byte<W: fmt::Write>(f: &mut fmt::Formatter<W>, byte: u8) -> fmt::Result
+    ensures { WritesOnOk W.write_str_gives f.old result (escape_ascii byte) f.new }
+{
+    for glyph in byte.escape_ascii() {
+        f.write_char(glyph as char)?;
+    }
+    Ok(())
+}
+
 impl fmt::Display for Shown<'_> {
+    ghost output = { λ s. Some (shown_of s.0.now) };
+
     fn fmt<W: fmt::Write>(&self, f: &mut fmt::Formatter<W>) -> fmt::Result {
-        write!(f, "{}", self.0.as_bytes().escape_ascii())
+        for byte in self.0.as_bytes() {
+            write_byte(f, *byte)?;
+        }
+        Ok(())
     }
 }
 

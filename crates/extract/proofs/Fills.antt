@@ -1,16 +1,15 @@
 -- A table comes to stand record by record: what the loop that fills it keeps.
-use Rattle.std.proofs.Common.{ℕ, ◌+◌, ◌*◌, ◌<◌, ◌≤◌, ◌≡◌, List, [], ◌∷◌, ◌++◌, length, drop}
+use Rattle.std.proofs.Common.{ℕ, ◌+◌, ◌*◌, ◌<◌, ◌≤◌, ◌≡◌, List, [], ◌∷◌, ◌++◌, length}
 use Rattle.std.proofs.Common.{refl, sym, ap, ◌∙◌, subst, arith}
 use Rattle.std.proofs.Common.{true, add-one, append-nil, length-append}
 use Rattle.std.specs.Prelude.{None}
 use Rattle.table.specs.Layout.{header_size}
 use Rattle.table.specs.Check.{number_end}
 use Rattle.table.specs.Held.{Held}
-use Rattle.written.specs.Layout.{records_from, table_length, header_bytes, row_bytes}
+use Rattle.written.specs.Layout.{records_from, table_length, row_bytes}
 use Rattle.written.specs.Over.{over}
 use Rattle.written.specs.Stands.{Stands}
-use Rattle.written.proofs.Bytes.{header_long}
-use Rattle.written.proofs.Pieces.{begin, follow}
+use Rattle.written.proofs.Pieces.{follow}
 use Rattle.extract.specs.Fixup.{Verdict, sound, verdict_of, good_array, fixed_up}
 use Rattle.extract.specs.Records.{record_count, record_at, verdict_at, number_at, row_by, rows_below, rows_of}
 use Rattle.extract.specs.Judge.{told_verdict}
@@ -20,14 +19,6 @@ use Rattle.extract.specs.declared.fixup.Judged.TheVariants as judged
 use Rattle.extract.specs.Extracted.{late_in}
 use Rattle.extract.proofs.Rows.{rows_more, number_fits}
 use Rattle.extract.proofs.Lengths.{sound_is, sound_length}
-
--- the header alone
-pub header_stands : (size base k : ℕ) (old b : List ℕ) → b ≡ header_bytes size base k → table_length size k ≤ length old
-    → Stands size base k [] old (b ++ drop 20 old)
-header_stands size base k old b e fits =
-    let h = header_bytes size base k in let l : 0 + length h ≡ 20 = omega (arith, header_long size base k) in
-    subst (λ (t : List ℕ). Stands size base k [] old (t ++ drop 20 old)) (sym e)
-    (subst (λ (n : ℕ). Stands size base k [] old (h ++ drop n old)) l (begin size base k old fits))
 
 module _ (x : Extract) (i : ℕ) where
   -- the row of a record that is written

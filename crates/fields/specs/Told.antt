@@ -11,7 +11,8 @@ use Rattle.fields.specs.declared.Cause.TheVariants.{ListNotResident, EntryCut, E
 use Rattle.fields.specs.declared.Cause.TheVariants.{NoRecord, NoAttribute, PartResident, NoRoom}
 use Rattle.fields.specs.declared.Cause.TheVariants.{BadTable, BadState, RunSize, RunCut, RunEmpty, RunRange}
 use Rattle.fields.specs.declared.Cause.TheVariants.{UsedSize, AttributeStale, FixupArray, FixupPair}
-use Rattle.fields.specs.declared.Cause.TheVariants.{EntryNameOutside, TooManyRows, OutputShort, RowNumber}
+use Rattle.fields.specs.declared.Cause.TheVariants.{EntryNameOutside, SizesDiffer, RecordsDiffer, TooManyRows}
+use Rattle.fields.specs.declared.Cause.TheVariants.{OutputShort, RowNumber}
 
 abbrev pub number_of : Cause → ℕ
 number_of RecordLength = 1
@@ -45,6 +46,8 @@ number_of AttributeStale = 28
 number_of FixupArray = 29
 number_of FixupPair = 30
 number_of EntryNameOutside = 31
+number_of SizesDiffer = 32
+number_of RecordsDiffer = 33
 number_of TooManyRows = 34
 number_of OutputShort = 35
 number_of RowNumber = 44

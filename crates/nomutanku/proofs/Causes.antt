@@ -11,7 +11,8 @@ use Rattle.fields.specs.declared.Cause.TheVariants.{ListNotResident, EntryCut, E
 use Rattle.fields.specs.declared.Cause.TheVariants.{NoRecord, NoAttribute, PartResident, NoRoom}
 use Rattle.fields.specs.declared.Cause.TheVariants.{BadTable, BadState, RunSize, RunCut, RunEmpty, RunRange}
 use Rattle.fields.specs.declared.Cause.TheVariants.{UsedSize, AttributeStale, FixupArray, FixupPair}
-use Rattle.fields.specs.declared.Cause.TheVariants.{EntryNameOutside, TooManyRows, OutputShort, RowNumber}
+use Rattle.fields.specs.declared.Cause.TheVariants.{EntryNameOutside, SizesDiffer, RecordsDiffer, TooManyRows}
+use Rattle.fields.specs.declared.Cause.TheVariants.{OutputShort, RowNumber}
 use Rattle.command.specs.Explain.{explained}
 use Rattle.command.specs.declared.explain.TheConstants.{CAUSES}
 
@@ -47,6 +48,8 @@ small AttributeStale = omega arith
 small FixupArray = omega arith
 small FixupPair = omega arith
 small EntryNameOutside = omega arith
+small SizesDiffer = omega arith
+small RecordsDiffer = omega arith
 small TooManyRows = omega arith
 small OutputShort = omega arith
 small RowNumber = omega arith

@@ -54,6 +54,10 @@ file_rule = record (new_rule (codes "inputs")) { value_names = 1 }
 abbrev pub table_rule : Rule
 table_rule = record (new_rule (codes "table")) { short = Some 111; value_names = 1 }
 
+-- a word that has to be there
+abbrev pub word_rule : List ℕ → Rule
+word_rule id = record (new_rule id) { value_names = 1; required = true }
+
 -- the subcommands
 abbrev pub list_shape : Shape
 list_shape = record (new_shape (codes "list")) {
@@ -78,6 +82,11 @@ extract_shape = record (new_shape (codes "extract")) {
       ∷ number_rule (codes "count") ∷ table_rule ∷ file_rule ∷ [];
 }
 
+abbrev pub merge_shape : Shape
+merge_shape = record (new_shape (codes "merge")) {
+  rules = table_rule ∷ word_rule (codes "first") ∷ word_rule (codes "second") ∷ [];
+}
+
 abbrev pub explain_shape : Shape
 explain_shape = record (new_shape (codes "explain")) { rules = refusal_rule ∷ [] }
 
@@ -92,7 +101,7 @@ program_shape = record (new_shape (codes "nomutanku")) {
 abbrev pub command_line : App
 command_line = record {
   top = record program_shape { is_leaf = false };
-  subs = list_shape ∷ rows_shape ∷ record_shape ∷ extract_shape ∷ explain_shape ∷ [];
+  subs = list_shape ∷ rows_shape ∷ record_shape ∷ extract_shape ∷ merge_shape ∷ explain_shape ∷ [];
 }
 
 -- an option that is read so, in its own subcommand alone

@@ -3,5 +3,6 @@ pub mod CommandLine
 pub mod Wishes
 pub mod Inputs
 pub mod Answers
+pub mod Merging
 pub mod Door
 pub mod Warning

@@ -1,5 +1,5 @@
-//! Tells what tables of NTFS records, and single records, hold, and makes tables of extracts of a raw $MFT: `nomutanku
-//! list`, `rows`, `record`, `extract` and `explain` (docs/REFERENCE.md, "The command").
+//! Tells what tables of NTFS records, and single records, hold, and makes tables of extracts of a raw $MFT, and one of
+//! two: `nomutanku list`, `rows`, `record`, `extract`, `merge` and `explain` (docs/REFERENCE.md, "The command").
 #![tactic(auto)]
 
 ghost use Rattle.std.specs.Prelude.{◌≡◌, Ok, None, map, string_bytes};
@@ -13,6 +13,7 @@ mod extraction;
 mod failed;
 mod given;
 mod inputs;
+mod merging;
 mod numbers;
 mod options;
 mod output;
@@ -48,6 +49,7 @@ fn obey<R: Print + Eprint + Input + Files + Clock + AllocGlobal>(
             let table = options.get_str(TABLE);
             extraction::obey(rt, streams, asked, table, options.get_strs(INPUTS))
         }
+        Some(("merge", options)) => merging::obey(rt, streams, options),
         Some((name, options)) => match wishes::wish(name, options) {
             Some(wish) => inputs::obey(rt, streams, wish, options.get_strs(INPUTS)),
             None => Ok(Status::Usage),

@@ -2,9 +2,9 @@
 ghost use Rattle.std.specs.Prelude.{IfOk, codes};
 ghost use Rattle.clap.specs.Simple.{new_shape};
 ghost use Rattle.nomutanku.specs.CommandLine.{IsRead, Is, leaf, number_rule, text_rule, flag_rule, tables_rule};
-ghost use Rattle.nomutanku.specs.CommandLine.{file_rule, table_rule};
+ghost use Rattle.nomutanku.specs.CommandLine.{file_rule, table_rule, word_rule};
 ghost use Rattle.nomutanku.specs.CommandLine.{list_shape, rows_shape, record_shape, extract_shape};
-ghost use Rattle.nomutanku.specs.CommandLine.{explain_shape, program_shape, command_line};
+ghost use Rattle.nomutanku.specs.CommandLine.{merge_shape, explain_shape, program_shape, command_line};
 
 use clap::{Arg, ArgAction, Command, value_parser};
 use std::alloc::{AllocError, Global};
@@ -21,9 +21,16 @@ pub const FIND: &str = "find";
 /// By this id the file that a table goes to is asked for.
 pub const TABLE: &str = "table";
 
+/// By this id the first of two tables is asked for that are made one.
+pub const FIRST_TABLE: &str = "first";
+
+/// By this id the second of them is asked for.
+pub const SECOND_TABLE: &str = "second";
+
 const STATUSES: &str =
     "Exit status, the worst of several: 0 whole, 1 stopped, or a record refused, 2 refused: no table,\n\
-    or no such record, 3 unreadable or out of memory, 64 bad usage, 74 output not written.";
+    no such record, or two tables that are not made one, 3 unreadable or out of memory, 64 bad usage,\n\
+    74 output not written.";
 
 const PROTECTED: &str =
     "A record as it lies on the disk is protected: the last two bytes of each 512 are replaced by a\n\
@@ -38,6 +45,15 @@ const EXTRACTS: &str =
     "An extract has records as they lie on the disk, one behind another; one at position P, from 0 on,\n\
     has the number of the first and P. The report goes to standard error: how many records were\n\
     written, how many were left out since they begin otherwise than with FILE, how many were refused.";
+
+const MERGES: &str =
+    "The table has each row of both, in the order of their numbers, and no base row. A number that both\n\
+    have is there once, and has to have the same bytes in both; else there is no table, and the lowest\n\
+    such number is told. How many rows there are goes to standard error.";
+
+const FIRST_OF_TWO: &str = "The first table; - is standard input, for one of the two";
+
+const SECOND_OF_TWO: &str = "The second table, with records of the same size";
 
 const SIZE: &str = "Records have N bytes; as many as the first one tells where it is left out";
 
@@ -202,6 +218,25 @@ fn extract<'a>(alloc: Global) -> Result<Command<'a>, AllocError>
         .arg(file(alloc, "MFT", EXTRACT))
 }
 
+// A word that has to be there, which goes by a name
+fn word<'a>(alloc: Global, id: &'a str, name: &'a str, help: &'a str) -> Arg<'a>
+    ensures { IsRead (word_rule id.entry.now) result }
+{
+    let word = Arg::new(alloc, id).required(true);
+    word.value_name(name).help(help)
+}
+
+fn merge<'a>(alloc: Global) -> Result<Command<'a>, AllocError>
+    ensures { IfOk result (Is (leaf merge_shape)) }
+{
+    Command::new(alloc, "merge")
+        .about("Make one table of two, as of the halves of one disk")
+        .after_help(MERGES)
+        .arg(table(alloc))?
+        .arg(word(alloc, FIRST_TABLE, "A", FIRST_OF_TWO))?
+        .arg(word(alloc, SECOND_TABLE, "B", SECOND_OF_TWO))
+}
+
 fn explain<'a>(alloc: Global) -> Result<Command<'a>, AllocError>
     ensures { IfOk result (Is (leaf explain_shape)) }
 {
@@ -236,5 +271,6 @@ pub fn command<'a>(alloc: Global) -> Result<Command<'a>, AllocError>
         .subcommand(rows(alloc)?)?
         .subcommand(one_record(alloc)?)?
         .subcommand(extract(alloc)?)?
+        .subcommand(merge(alloc)?)?
         .subcommand(explain(alloc)?)
 }

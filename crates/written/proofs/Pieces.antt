@@ -207,3 +207,11 @@ end size base k rows old s t e =
     subst
     (λ (x : ℕ). Stands size base x rows old s → s ≡ written size base rows ++ drop (table_length size x) old)
     e (all_rows size base rows old s) t
+
+-- the header alone
+pub header_stands : (size base k : ℕ) (old b : List ℕ) → b ≡ header_bytes size base k → table_length size k ≤ length old
+    → Stands size base k [] old (b ++ drop 20 old)
+header_stands size base k old b e fits =
+    let h = header_bytes size base k in let l : 0 + length h ≡ 20 = omega (arith, header_long size base k) in
+    subst (λ (t : List ℕ). Stands size base k [] old (t ++ drop 20 old)) (sym e)
+    (subst (λ (n : ℕ). Stands size base k [] old (h ++ drop n old)) l (begin size base k old fits))

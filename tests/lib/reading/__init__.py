@@ -3,9 +3,10 @@
 It is written from docs/RULES.md (sections cited as RULES n) and not from the library's code: it shares no definition
 with it, so that a slip in one of the two shows as a difference. A module for each layer, each rule in one of them, and
 each module over those below it: `record`, `entries`, `runs`, `table`, `items`, `parts`, `listing`, and what is told
-besides, `directory` (rows), `single` (one record), `references`, `hazards`, `names` and `objects` (JSON); and
-`extracts`, over none of them. Apart on purpose are the parts in `parts` and in `listing`: they are the rules' longest
-tale, told by two who share nothing of it but the attribute, the entry and the search.
+besides, `directory` (rows), `single` (one record), `references`, `hazards`, `names` and `objects` (JSON);
+`extracts`, over none of them; and `merges`, over `table` and `extracts`. Apart on purpose are the parts in `parts` and
+in `listing`: they are the rules' longest tale, told by two who share nothing of it but the attribute, the entry and the
+search.
 
 `older` has what the rules of before need: `without_used_sizes` turns 27 and 28 off; `names_at_26` reads an entry's name
 at byte 26, as before; `joined_by_instance` joins entries as before, by type and instance; `as_the_rust_lists` does the

@@ -10,7 +10,8 @@ use Rattle.fields.specs.declared.Cause.TheVariants.{ListNotResident, EntryCut, E
 use Rattle.fields.specs.declared.Cause.TheVariants.{NoRecord, NoAttribute, PartResident, NoRoom}
 use Rattle.fields.specs.declared.Cause.TheVariants.{BadTable, BadState, RunSize, RunCut, RunEmpty, RunRange}
 use Rattle.fields.specs.declared.Cause.TheVariants.{UsedSize, AttributeStale, FixupArray, FixupPair}
-use Rattle.fields.specs.declared.Cause.TheVariants.{EntryNameOutside, TooManyRows, OutputShort, RowNumber}
+use Rattle.fields.specs.declared.Cause.TheVariants.{EntryNameOutside, SizesDiffer, RecordsDiffer, TooManyRows}
+use Rattle.fields.specs.declared.Cause.TheVariants.{OutputShort, RowNumber}
 use Rattle.command.specs.Explain.{explained}
 use Rattle.command.specs.declared.explain.TheConstants.{CAUSES}
 use Rattle.command.proofs.laws.explanations_settle.Goals as goal
@@ -47,6 +48,8 @@ found AttributeStale = refl
 found FixupArray = refl
 found FixupPair = refl
 found EntryNameOutside = refl
+found SizesDiffer = refl
+found RecordsDiffer = refl
 found TooManyRows = refl
 found OutputShort = refl
 found RowNumber = refl

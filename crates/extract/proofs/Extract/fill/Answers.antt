@@ -3,9 +3,9 @@ use Rattle.std.proofs.Common.{subst, arith}
 use Rattle.table.specs.Held.{Held}
 use Rattle.written.specs.Layout.{table_length, written}
 use Rattle.written.specs.Stands.{Stands}
-use Rattle.written.proofs.Pieces.{end}
+use Rattle.written.proofs.Pieces.{header_stands, end}
 use Rattle.extract.specs.Records.{record_count, rows_below, rows_of}
-use Rattle.extract.proofs.Fills.{header_stands, other_row, told_at, next_row, Next, next, row_stands}
+use Rattle.extract.proofs.Fills.{other_row, told_at, next_row, Next, next, row_stands}
 use Rattle.extract.proofs.Extract.fill.Goals as goal
 use Rattle.extract.proofs.Extract.fill.Goals.{in-Sound, in_default}
 
